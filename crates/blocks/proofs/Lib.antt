@@ -1,0 +1,4 @@
+pub mod Letters
+pub mod Overwrites
+pub mod Written
+pub mod Restored

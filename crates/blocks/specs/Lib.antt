@@ -1,0 +1,6 @@
+pub mod Refusals
+pub mod Checks
+pub mod Records
+pub mod Reading
+pub mod Writing
+pub mod RoundTrip

@@ -1,0 +1,4 @@
+pub mod Wiped
+pub mod Loops
+pub mod Slots
+pub mod Facts

@@ -1,0 +1,13 @@
+pub mod Outcome
+pub mod Ready
+pub mod Look
+pub mod Ends
+pub mod Begin
+pub mod Reads
+pub mod Writes
+pub mod Extend
+pub mod Commit
+pub mod Looked
+pub mod Sound
+pub mod Step
+pub mod Place

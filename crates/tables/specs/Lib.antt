@@ -1,0 +1,4 @@
+pub mod Lookup
+pub mod Numbers
+pub mod Tables
+pub mod Fresh
