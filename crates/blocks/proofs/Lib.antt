@@ -1,4 +1,4 @@
-pub mod Letters
+pub mod Listed
 pub mod Overwrites
 pub mod Written
 pub mod Restored

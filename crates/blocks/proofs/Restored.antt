@@ -1,13 +1,13 @@
 -- A block that was written, and what reading it answers.
 use mathlib.Core.Bool.{Bool, true, false}
 use mathlib.Core.List.{List, map}
-use mathlib.Core.Path.{_≡_, refl, sym, _∙_, ap}
+use mathlib.Core.Path.{_≡_, refl, _∙_, ap}
 use Prim.Native.Nat.{ℕ, _^_, _<_, _≤_}
 use native.Mathlib.Omega.{arith}
 use lib.Dec.{eqb, leb}
 use lib.ListN.{length}
 use Rattle.std.proofs.shelf.Tests.{leb-true}
-use Rattle.std.specs.declared.option.Option.the-variants.{Some, None}
+use Rattle.std.specs.declared.option.Option.the-variants.{None}
 use Rattle.std.specs.declared.result.Result.{Result}
 use Rattle.std.specs.declared.result.Result.the-variants.{Ok, Err}
 use Rattle.blocks.specs.declared.reader.Block.{Block}
@@ -41,5 +41,6 @@ module _ (size n : ℕ) (es : List Entry) (small : n < 2 ^ 32) (yes : write-refu
       ( yes
       , bytes
       , ap number-of bytes ∙ number-block n es few small
-      , ap (λ (l : List ℕ). records-of l (b .count)) bytes ∙ ap (records-of (block-of n es)) count ∙ records-block n es few )
+      , ap (λ (l : List ℕ). records-of l (b .count)) bytes ∙ ap (records-of (block-of n es)) count ∙ records-block n es few
+      , o .3 )
   restored (Err e) o = absurd (let z : _≡_ {A = ℕ} 0 1 = cc read in omega arith)

@@ -6,16 +6,16 @@ use Prim.Native.Nat.{ℕ, zero, suc, _+_, _-_, _*_, _%_, _/_, _^_, _<_, _≤_}
 use native.Mathlib.Nat.{div-div-eq-div-mul}
 use native.Mathlib.Omega.{arith}
 use lib.ListN.{length, getD, take, drop, replicate}
-use Rattle.std.specs.shelf.Lists.{joined, between}
-use Rattle.std.proofs.shelf.Lists.{append-assoc, take-at, take-all, drop-at, drop-drop, length-append, length-replicate, length-map, getD-map, getD-append-right, getD-append-left, same-lists}
-use Rattle.blocks.specs.declared.writer.Entry.{Entry}
-use Rattle.blocks.specs.Checks.{weighted, check-of}
-use Rattle.blocks.specs.Records.{Said, says, told, at16}
+use Rattle.std.specs.shelf.Lists.{joined}
+use Rattle.std.proofs.shelf.Lists.{append-assoc, take-at, take-all, drop-drop, length-append, length-replicate, length-map, getD-map, getD-append-right, same-lists}
 use Rattle.std.proofs.shelf.Ways.{tells}
 use Rattle.std.specs.declared.option.Option.the-variants.{None}
+use Rattle.blocks.specs.declared.writer.Entry.{Entry}
+use Rattle.blocks.specs.Checks.{weighted, check-of}
+use Rattle.blocks.specs.Records.{says, told, at16}
 use Rattle.blocks.specs.Reading.{count-of, number-of, said-at, records-of, letters-known, read-refusal}
 use Rattle.blocks.specs.Writing.{le16, le32, eight-of, entry-says, body-of, block-of}
-use Rattle.blocks.proofs.Letters.{no-entry, length-records, getD-records}
+use Rattle.blocks.proofs.Listed.{no-entry, length-records, getD-records}
 
 -- a number from its lowest byte and what lies above it
 whole : (n : ℕ) → n % 256 + n / 256 * 256 ≡ n

@@ -2,7 +2,7 @@
 use mathlib.Core.Bool.{Bool, true, false, _&&_}
 use mathlib.Core.List.{List, [], _∷_, map}
 use mathlib.Core.Path.{_≡_}
-use Prim.Native.Nat.{ℕ, _+_, _*_}
+use Prim.Native.Nat.{ℕ, _+_, _*_, _<_}
 use lib.Dec.{eqb, leb, ltb}
 use lib.ListN.{length}
 use Rattle.std.specs.Iters.{counting}
@@ -27,9 +27,13 @@ count-of bs = at16 bs 0
 abbrev pub number-of : List ℕ → ℕ
 number-of bs = at32 bs 2
 
+-- the eight bytes in place i of a block
+abbrev pub place-of : List ℕ → ℕ → List ℕ
+place-of bs i = between (6 + 8 * i) (14 + 8 * i) bs
+
 -- what the eight bytes in place i of a block say
 abbrev pub said-at : List ℕ → ℕ → Said
-said-at bs i = told (between (6 + 8 * i) (14 + 8 * i) bs)
+said-at bs i = told (place-of bs i)
 
 -- what the records in the first places of a block say, in order
 unfoldable pub records-of : List ℕ → ℕ → List Said
@@ -45,21 +49,25 @@ abbrev pub read-refusal : List ℕ → ℕ → Option Refusal
 read-refusal bs next =
     first-no (eqb (length bs) 512) (eqb (at16 bs 510) (check-of bs)) (eqb (number-of bs) next) (leb (count-of bs) 63) (letters-known (records-of bs (count-of bs)))
 
+-- whether the bytes hold a record in place i, where there are `count`: the place is within the count and within the bytes, and its letter is known
+abbrev pub holds : List ℕ → ℕ → ℕ → Bool
+holds bs count i = ltb i count && (leb (14 + 8 * i) (length bs) && known (said-at bs i .letter))
+
+-- each place within the count holds a record
+abbrev pub Full : List ℕ → ℕ → Type 0
+Full bs count = (i : ℕ) → i < count → holds bs count i ≡ true
+
 -- the answer to the last question alone
 abbrev pub Letters : List ℕ → ℕ → Result Unit Refusal → Type 0
-Letters bs count (Ok u) = letters-known (records-of bs count) ≡ true
+Letters bs count (Ok u) = (letters-known (records-of bs count) ≡ true) × Full bs count
 Letters bs count (Err e) = (letters-known (records-of bs count) ≡ false) × (e ≡ Letter)
 
--- what reading a block answers: the block of these bytes with the count that they hold, or the refusal
+-- what reading a block answers: the block of these bytes with the count that they hold, each place of it with a record; or the refusal
 abbrev pub Opens : List ℕ → ℕ → Result Block Refusal → Type 0
-Opens bs next (Ok b) = (read-refusal bs next ≡ None) × (b .bytes .now ≡ bs) × (b .count ≡ count-of bs)
+Opens bs next (Ok b) = (read-refusal bs next ≡ None) × (b .bytes .now ≡ bs) × (b .count ≡ count-of bs) × Full (b .bytes .now) (b .count)
 Opens bs next (Err e) = read-refusal bs next ≡ Some e
-
--- whether a block holds a record in place i: the place is within the count and within the bytes, and its letter is known
-abbrev pub holds : Block → ℕ → Bool
-holds b i = ltb i (b .count) && (leb (14 + 8 * i) (length (b .bytes .now)) && known (said-at (b .bytes .now) i .letter))
 
 -- what is handed out of place i: what its bytes say, exactly where the block holds a record there
 abbrev pub Hands : Block → ℕ → Option Record → Type 0
-Hands b i None = holds b i ≡ false
-Hands b i (Some r) = (holds b i ≡ true) × (said r ≡ said-at (b .bytes .now) i)
+Hands b i None = holds (b .bytes .now) (b .count) i ≡ false
+Hands b i (Some r) = (holds (b .bytes .now) (b .count) i ≡ true) × (said r ≡ said-at (b .bytes .now) i)

@@ -1,9 +1,9 @@
 // Reads blocks: the five questions, and the records of a block for which all are answered 'yes'.
 ghost use mathlib.Core.Path.{_≡_};
-ghost use Prim.Native.Nat.{_+_, _≤_};
+ghost use Prim.Native.Nat.{_+_, _*_, _≤_};
 ghost use lib.ListN.{length};
-ghost use Rattle.blocks.specs.Records.{at16, at32};
-ghost use Rattle.blocks.specs.Reading.{Letters, Opens, Hands};
+ghost use Rattle.blocks.specs.Records.{Reads, at16, at32};
+ghost use Rattle.blocks.specs.Reading.{place-of, Letters, Opens, Hands};
 use super::check::check_of;
 use super::record::Record;
 use super::record::read_record;
@@ -28,12 +28,20 @@ impl<'a> Block<'a> {
     pub fn record(&self, i: usize) -> Option<Record<'a>>
         ensures { λ r. ⌜ Hands (now (self .entry)) i r ⌝ }
     {
-        let length = self.bytes.len();
-        if i >= self.count || length < 14 || i > (length - 14) / 8 {
+        let Block { bytes, count } = *self;
+        if i >= count || bytes.len() < 14 || i > (bytes.len() - 14) / 8 {
             return None;
         }
-        read_record(&self.bytes[6 + 8 * i..14 + 8 * i]).ok()
+        read_place(bytes, i).ok()
     }
+}
+
+// The record in place i of a block, or a refusal where its letter is not known.
+fn read_place<'a>(bytes: &'a [u8], i: usize) -> Result<Record<'a>, Refusal>
+    requires { ⌜ 14 + 8 * i ≤ length (now bytes) ⌝ }
+    ensures { λ r. ⌜ Reads (place-of (now (bytes .entry)) i) r ⌝ }
+{
+    read_record(&bytes[6 + 8 * i..14 + 8 * i])
 }
 
 // The number that two bytes hold from place i on.
@@ -58,7 +66,7 @@ fn read_records(bytes: &[u8], count: usize) -> Result<(), Refusal>
     ensures { λ r. ⌜ Letters (now (bytes .entry)) count r ⌝ }
 {
     for i in 0..count {
-        read_record(&bytes[6 + 8 * i..14 + 8 * i])?;
+        read_place(bytes, i)?;
     }
     Ok(())
 }

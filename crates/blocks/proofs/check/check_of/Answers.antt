@@ -1,6 +1,6 @@
 -- The check's sums fit their type, and each turn of the loop moves one byte from what is left into the sum.
-use Prim.Native.Nat.{ℕ, _+_, _*_, _≤_, _%_}
-use lib.ListN.{drop, take, getD, length}
+use Prim.Native.Nat.{_+_, _*_, _≤_, _%_}
+use lib.ListN.{drop, getD}
 use mathlib.Core.Path.{_≡_, _∙_, ap}
 use native.Mathlib.Omega.{arith}
 use Rattle.std.proofs.shelf.Bits.{mul-le}

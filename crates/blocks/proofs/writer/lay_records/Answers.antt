@@ -8,7 +8,7 @@ use lib.ListN.{take, getD}
 use Rattle.std.proofs.shelf.Lists.{take-more, take-all, joined-more}
 use Rattle.std.proofs.shelf.Parts.{take-putMid}
 use Rattle.blocks.specs.Writing.{eight-of}
-use Rattle.blocks.proofs.Letters.{no-entry}
+use Rattle.blocks.proofs.Listed.{no-entry}
 use Rattle.blocks.proofs.writer.lay_records.Needs as need
 
 pub loop-entry-again : need.loop-entry-again

@@ -4,7 +4,7 @@ use native.Mathlib.Omega.{arith}
 use Rattle.std.proofs.shelf.Lists.{at-drop-all, length-map}
 use Rattle.blocks.specs.Reading.{letters-known}
 use Rattle.blocks.specs.Writing.{entry-says}
-use Rattle.blocks.proofs.Letters.{write-more}
+use Rattle.blocks.proofs.Listed.{write-more}
 use Rattle.blocks.proofs.writer.letters_known.Needs as need
 
 pub returns-then-not-is-letter : need.returns-then-not-is-letter

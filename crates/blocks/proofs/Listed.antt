@@ -1,8 +1,8 @@
--- The letters of a list of records, taken one after another.
-use mathlib.Core.Bool.{true, _&&_}
+-- Lists of what records say: how long they are, what they hold, and their letters one after another.
+use mathlib.Core.Bool.{_&&_}
 use mathlib.Core.List.{List, [], map}
 use mathlib.Core.Path.{_≡_, _∙_, ap}
-use Prim.Native.Nat.{ℕ, _+_, _<_, _≤_}
+use Prim.Native.Nat.{ℕ, _+_, _<_}
 use native.Mathlib.Omega.{arith}
 use lib.ListN.{length, getD, drop}
 use Rattle.std.proofs.shelf.Counted.{length-map-counting, getD-map-counting}
