@@ -40,9 +40,11 @@ zeros ys l m e h = e ∙ ap (λ (k : ℕ). replicate k 0) (sym (length-replicate
 
 -- a body of 510 bytes, and two bytes after it
 module _ (x b : List ℕ) (h : length x ≡ 512) (hb : length b ≡ 510) where
+  -- what lies before the last two bytes is the body
   pub body-stands : take 510 (b ++ postOf 0 510 x) ≡ b
   body-stands = put 0 510 510 x b [] refl refl (omega arith) hb
 
+  -- the two bytes complete the block
   pub block-written : (y : List ℕ) → length y ≡ 2 → putMid 510 2 (b ++ postOf 0 510 x) y ≡ b ++ y
   block-written y hy =
       let x1 = b ++ postOf 0 510 x in

@@ -25,6 +25,7 @@ whole n = omega arith
 told-eight : (e : Entry) → told (eight-of e) ≡ entry-says e
 told-eight e = ap (λ (o : ℕ). says (e .letter) (e .process) o (le32 (e .content))) (whole (e .object))
 
+-- each entry has eight bytes
 length-joined : (es : List Entry) → length (joined eight-of es) ≡ 8 * length es
 length-joined [] = refl
 length-joined (e ∷ es) =
@@ -56,6 +57,7 @@ four-bytes n h =
     omega arith
 
 module _ (n : ℕ) (es : List Entry) (few : length es ≤ 63) where
+  -- the body has 510 bytes
   length-body : length (body-of n es) ≡ 510
   unfolding body-of
   length-body =
@@ -65,17 +67,20 @@ module _ (n : ℕ) (es : List Entry) (few : length es ≤ 63) where
       let zeros : length (replicate {A = ℕ} past 0) ≡ past = length-replicate past 0 in
       omega arith
 
-  pub length-block : length (block-of n es) ≡ 512
+  -- the block has 512 bytes
+  length-block : length (block-of n es) ≡ 512
   unfolding block-of
   length-block =
       let body = length-body in
       let both = length-append (body-of n es) (le16 (check-of (body-of n es))) in
       omega arith
 
+  -- the first two bytes hold the count
   pub count-block : count-of (block-of n es) ≡ length es
   unfolding block-of body-of
   count-block = omega arith
 
+  -- the next four bytes hold the number
   pub number-block : n < 2 ^ 32 → number-of (block-of n es) ≡ n
   unfolding block-of body-of
   number-block h = four-bytes n h
@@ -88,7 +93,7 @@ module _ (n : ℕ) (es : List Entry) (few : length es ≤ 63) where
       ap (λ (l : List ℕ). weighted 1 l % 65521) (take-at body (le16 (check-of body)) 510 length-body ∙ sym (take-all 510 body (omega (arith, length-body))))
 
   -- the last two bytes hold the check
-  pub last-block : at16 (block-of n es) 510 ≡ check-of (block-of n es)
+  last-block : at16 (block-of n es) 510 ≡ check-of (block-of n es)
   unfolding block-of
   last-block =
       let body = body-of n es in
@@ -105,23 +110,24 @@ module _ (n : ℕ) (es : List Entry) (few : length es ≤ 63) where
   said-block i d h =
       let zeros : List ℕ = replicate (504 - 8 * length es) 0 in
       let check = le16 (check-of (body-of n es)) in
-      let wide : 14 + 8 * i - (6 + 8 * i) ≡ 8 = omega arith in
+      let wide : 6 + 8 * i + 8 - (6 + 8 * i) ≡ 8 = omega arith in
       ap told
-        ( ap (λ (k : ℕ). take k (drop (6 + 8 * i) (block-of n es))) wide
-        ∙ ap (take 8) (sym (drop-drop (8 * i) 6 (block-of n es)))
-        ∙ ap (λ (l : List ℕ). take 8 (drop (8 * i) l)) (append-assoc (joined eight-of es) zeros check)
-        ∙ joined-at es i (zeros ++ check) d h )
+      (ap (λ (k : ℕ). take k (drop (6 + 8 * i) (block-of n es))) wide
+      ∙ ap (take 8) (sym (drop-drop (8 * i) 6 (block-of n es)))
+      ∙ ap (λ (l : List ℕ). take 8 (drop (8 * i) l)) (append-assoc (joined eight-of es) zeros check)
+      ∙ joined-at es i (zeros ++ check) d h)
       ∙ told-eight (getD es i d)
 
+  -- the places within the count hold what the entries say, in order
   pub records-block : records-of (block-of n es) (length es) ≡ map entry-says es
   records-block =
       let block = block-of n es in
       same-lists (records-of block (length es)) (map entry-says es) (length-records block (length es) ∙ sym (length-map es entry-says))
-        (λ k d h.
-          let inside : k < length es = omega (arith, length-records block (length es)) in
-          getD-records block (length es) k d inside ∙ said-block k no-entry inside ∙ sym (getD-map entry-says es k no-entry d inside))
+      (λ k d h.
+      let inside : k < length es = omega (arith, length-records block (length es)) in
+      getD-records block (length es) k d inside ∙ said-block k no-entry inside ∙ sym (getD-map entry-says es k no-entry d inside))
 
-  -- the reader asks nothing of a written block that is answered 'no'
+  -- the reader answers each question 'yes' at a written block
   pub block-read : n < 2 ^ 32 → letters-known (map entry-says es) ≡ true → read-refusal (block-of n es) n ≡ None
   block-read h letters =
       let block = block-of n es in

@@ -1,3 +1,4 @@
+-- What the contracts of the crate speak of.
 pub mod Refusals
 pub mod Checks
 pub mod Records

@@ -29,7 +29,7 @@ number-of bs = at32 bs 2
 
 -- the eight bytes in place i of a block
 abbrev pub place-of : List ℕ → ℕ → List ℕ
-place-of bs i = between (6 + 8 * i) (14 + 8 * i) bs
+place-of bs i = between (6 + 8 * i) (6 + 8 * i + 8) bs
 
 -- what the eight bytes in place i of a block say
 abbrev pub said-at : List ℕ → ℕ → Said
@@ -51,7 +51,7 @@ read-refusal bs next =
 
 -- whether the bytes hold a record in place i, where there are `count`: the place is within the count and within the bytes, and its letter is known
 abbrev pub holds : List ℕ → ℕ → ℕ → Bool
-holds bs count i = ltb i count && (leb (14 + 8 * i) (length bs) && known (said-at bs i .letter))
+holds bs count i = ltb i count && (leb (6 + 8 * i + 8) (length bs) && known (said-at bs i .letter))
 
 -- each place within the count holds a record
 abbrev pub Full : List ℕ → ℕ → Type 0
@@ -67,7 +67,7 @@ abbrev pub Opens : List ℕ → ℕ → Result Block Refusal → Type 0
 Opens bs next (Ok b) = (read-refusal bs next ≡ None) × (b .bytes .now ≡ bs) × (b .count ≡ count-of bs) × Full (b .bytes .now) (b .count)
 Opens bs next (Err e) = read-refusal bs next ≡ Some e
 
--- what is handed out of place i: what its bytes say, exactly where the block holds a record there
+-- what is handed out of place i: what its bytes say, with four content bytes, exactly where the block holds a record there
 abbrev pub Hands : Block → ℕ → Option Record → Type 0
 Hands b i None = holds (b .bytes .now) (b .count) i ≡ false
-Hands b i (Some r) = (holds (b .bytes .now) (b .count) i ≡ true) × (said r ≡ said-at (b .bytes .now) i)
+Hands b i (Some r) = (holds (b .bytes .now) (b .count) i ≡ true) × (said r ≡ said-at (b .bytes .now) i) × (length (said r .content) ≡ 4)

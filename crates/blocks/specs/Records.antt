@@ -13,15 +13,15 @@ use Rattle.blocks.specs.declared.record.Record.the-variants.{Begin, Read, Writ
 use Rattle.blocks.specs.declared.refusal.Refusal.{Refusal}
 use Rattle.blocks.specs.declared.refusal.Refusal.the-variants.{Letter}
 
--- the number that two bytes hold from place i on, low byte first
+-- the number that two bytes hold from byte i on, low byte first
 abbrev pub at16 : List ℕ → ℕ → ℕ
 at16 bs i = getD bs i 0 + getD bs (i + 1) 0 * 256
 
--- the number that four bytes hold from place i on, low byte first
+-- the number that four bytes hold from byte i on, low byte first
 abbrev pub at32 : List ℕ → ℕ → ℕ
 at32 bs i = getD bs i 0 + getD bs (i + 1) 0 * 256 + getD bs (i + 2) 0 * 65536 + getD bs (i + 3) 0 * 16777216
 
--- what a record says: its parts, without the place where its content lies
+-- what a record says: its parts, without where its content lies in memory
 pub record Said : Type 0 where
   pub letter : ℕ
   pub process : ℕ
@@ -49,7 +49,7 @@ told bs = says (getD bs 0 0) (getD bs 1 0) (at16 bs 2) (between 4 (length bs) bs
 abbrev pub known : ℕ → Bool
 known b = eqb b 66 || (eqb b 82 || (eqb b 87 || (eqb b 67 || (eqb b 68 || eqb b 83))))
 
--- what reading the bytes of a record answers: what they say, or a refusal where the letter is not known
+-- what reading the eight bytes of a record answers: what they say, with four content bytes, or a refusal where the letter is not known
 abbrev pub Reads : List ℕ → Result Record Refusal → Type 0
-Reads bs (Ok r) = (known (told bs .letter) ≡ true) × (said r ≡ told bs)
+Reads bs (Ok r) = (known (told bs .letter) ≡ true) × (said r ≡ told bs) × (length (said r .content) ≡ 4)
 Reads bs (Err e) = (known (told bs .letter) ≡ false) × (e ≡ Letter)

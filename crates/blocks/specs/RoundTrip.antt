@@ -2,6 +2,7 @@
 use mathlib.Core.List.{List, map}
 use mathlib.Core.Path.{_≡_}
 use Prim.Native.Nat.{ℕ}
+use lib.ListN.{length}
 use Rattle.std.specs.declared.option.Option.the-variants.{Some, None}
 use Rattle.std.specs.declared.result.Result.{Result}
 use Rattle.std.specs.declared.result.Result.the-variants.{Ok, Err}
@@ -11,12 +12,13 @@ use Rattle.blocks.specs.declared.writer.Entry.{Entry}
 use Rattle.blocks.specs.Reading.{number-of, records-of, Full}
 use Rattle.blocks.specs.Writing.{entry-says, block-of, write-refusal}
 
--- the writer's refusal, or a block of the bytes that were written, whose number and whole list of records are those that were handed in, with a record in each place
+-- the writer's refusal, or a block of the bytes that were written: its number, its count and its whole list of records are those that were handed in, and each place within the count holds a record
 abbrev pub Restores : ℕ → ℕ → List Entry → Result Block Refusal → Type 0
 Restores size number es (Ok b) =
     (write-refusal size es ≡ None)
     × (b .bytes .now ≡ block-of number es)
     × (number-of (b .bytes .now) ≡ number)
+    × (b .count ≡ length es)
     × (records-of (b .bytes .now) (b .count) ≡ map entry-says es)
     × Full (b .bytes .now) (b .count)
 Restores size number es (Err e) = write-refusal size es ≡ Some e

@@ -29,7 +29,7 @@ le32 n = (n % 256) ∷ (n / 256 % 256) ∷ (n / 65536 % 256) ∷ (n / 16777216 %
 abbrev pub entry-says : Entry → Said
 entry-says e = says (e .letter) (e .process) (e .object) (le32 (e .content))
 
--- the eight bytes of an entry: letter, process, object and content. The object is below 65536, so its high byte is what 256 goes into it
+-- the eight bytes of an entry: letter, process, object and content. The object is below 65536, so its high byte is the quotient by 256
 abbrev pub eight-of : Entry → List ℕ
 eight-of e = e .letter ∷ e .process ∷ (e .object % 256) ∷ (e .object / 256) ∷ le32 (e .content)
 

@@ -3,13 +3,18 @@ ghost use mathlib.Core.Path.{_≡_};
 ghost use Prim.Native.Nat.{_≤_};
 ghost use lib.ListN.{length, take};
 ghost use Rattle.blocks.specs.Checks.{check-of};
+use super::layout::BODY_LEN;
 
 // The bytes that the check is taken over: the first 510, or all where there are fewer.
 fn checked_part(block: &[u8]) -> &[u8]
     ensures part { λ r. ⌜ now r ≡ take 510 (now (block .entry)) ⌝ }
     ensures short { λ r. ⌜ length (now r) ≤ 510 ⌝ }
 {
-    if block.len() < 510 { block } else { &block[0..510] }
+    if block.len() < BODY_LEN {
+        block
+    } else {
+        &block[0..BODY_LEN]
+    }
 }
 
 // The check of a block: the sum of (i + 1) * byte i over its first 510 bytes, modulo 65521.

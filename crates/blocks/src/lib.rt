@@ -20,6 +20,7 @@
 //
 // The reader asks all five. The writer asks 11, 14 and 15, and leaves the bytes as they were where it refuses.
 mod check;
+mod layout;
 mod reader;
 mod record;
 mod refusal;

@@ -5,6 +5,11 @@ ghost use lib.ListN.{length};
 ghost use Rattle.blocks.specs.Records.{Reads, at16, at32};
 ghost use Rattle.blocks.specs.Reading.{place-of, Letters, Opens, Hands};
 use super::check::check_of;
+use super::layout::BLOCK_LEN;
+use super::layout::BODY_LEN;
+use super::layout::HEAD_LEN;
+use super::layout::PLACE_LEN;
+use super::layout::PLACES;
 use super::record::Record;
 use super::record::read_record;
 use super::refusal::Refusal;
@@ -29,7 +34,7 @@ impl<'a> Block<'a> {
         ensures { λ r. ⌜ Hands (now (self .entry)) i r ⌝ }
     {
         let Block { bytes, count } = *self;
-        if i >= count || bytes.len() < 14 || i > (bytes.len() - 14) / 8 {
+        if i >= count || bytes.len() < HEAD_LEN || i >= (bytes.len() - HEAD_LEN) / PLACE_LEN {
             return None;
         }
         read_place(bytes, i).ok()
@@ -38,13 +43,14 @@ impl<'a> Block<'a> {
 
 // The record in place i of a block, or a refusal where its letter is not known.
 fn read_place<'a>(bytes: &'a [u8], i: usize) -> Result<Record<'a>, Refusal>
-    requires { ⌜ 14 + 8 * i ≤ length (now bytes) ⌝ }
+    requires { ⌜ 6 + 8 * i + 8 ≤ length (now bytes) ⌝ }
     ensures { λ r. ⌜ Reads (place-of (now (bytes .entry)) i) r ⌝ }
 {
-    read_record(&bytes[6 + 8 * i..14 + 8 * i])
+    let start = HEAD_LEN + PLACE_LEN * i;
+    read_record(&bytes[start..start + PLACE_LEN])
 }
 
-// The number that two bytes hold from place i on.
+// The number that two bytes hold from byte i on.
 fn two_bytes(bytes: &[u8], i: usize) -> u16
     requires { ⌜ i + 2 ≤ length (now bytes) ⌝ }
     ensures { λ r. ⌜ r ≡ at16 (now (bytes .entry)) i ⌝ }
@@ -52,7 +58,7 @@ fn two_bytes(bytes: &[u8], i: usize) -> u16
     u16::from_le_bytes([bytes[i], bytes[i + 1]])
 }
 
-// The number that four bytes hold from place i on.
+// The number that four bytes hold from byte i on.
 fn four_bytes(bytes: &[u8], i: usize) -> u32
     requires { ⌜ i + 4 ≤ length (now bytes) ⌝ }
     ensures { λ r. ⌜ r ≡ at32 (now (bytes .entry)) i ⌝ }
@@ -75,17 +81,17 @@ fn read_records(bytes: &[u8], count: usize) -> Result<(), Refusal>
 pub fn read_block<'a>(bytes: &'a [u8], next: u32) -> Result<Block<'a>, Refusal>
     ensures { λ r. ⌜ Opens (now (bytes .entry)) next r ⌝ }
 {
-    if bytes.len() != 512 {
+    if bytes.len() != BLOCK_LEN {
         return Err(Refusal::Length);
     }
-    if two_bytes(bytes, 510) != check_of(bytes) {
+    if two_bytes(bytes, BODY_LEN) != check_of(bytes) {
         return Err(Refusal::Check);
     }
     if four_bytes(bytes, 2) != next {
         return Err(Refusal::Number);
     }
     let count = usize::from(two_bytes(bytes, 0));
-    if count > 63 {
+    if count > PLACES {
         return Err(Refusal::Count);
     }
     read_records(bytes, count)?;

@@ -5,10 +5,15 @@ ghost use Rattle.blocks.specs.Refusals.{refusal-number};
 // The question that was answered 'no'.
 #[derive(Clone, Copy, Debug, PartialEq)]
 pub enum Refusal {
+    // Are there 512 bytes?
     Length,
+    // Is the check right?
     Check,
+    // Is the number the one that comes next?
     Number,
+    // Are there at most 63 records?
     Count,
+    // Is the letter of each record known?
     Letter,
 }
 

@@ -15,7 +15,11 @@ fn reread_block<'a>(bytes: &'a [u8], number: u32) -> Result<Block<'a>, Refusal>
 }
 
 // Writes a block and reads it back from the same bytes: the records that were written come back in their order, under the same number.
-pub fn write_then_read<'a>(out: &'a mut [u8], number: u32, entries: &[Entry]) -> Result<Block<'a>, Refusal>
+pub fn write_then_read<'a>(
+    out: &'a mut [u8],
+    number: u32,
+    entries: &[Entry],
+) -> Result<Block<'a>, Refusal>
     ensures { λ r. ⌜ Restores (length (now (out .entry))) number (now (entries .entry)) r ⌝ }
 {
     write_block(out, number, entries)?;

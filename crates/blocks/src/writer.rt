@@ -7,6 +7,11 @@ ghost use Rattle.std.specs.shelf.Lists.{joined};
 ghost use Rattle.blocks.specs.Reading.{letters-known};
 ghost use Rattle.blocks.specs.Writing.{entry-says, eight-of, body-of, block-of, Wrote};
 use super::check::check_of;
+use super::layout::BLOCK_LEN;
+use super::layout::BODY_LEN;
+use super::layout::HEAD_LEN;
+use super::layout::PLACE_LEN;
+use super::layout::PLACES;
 use super::record::is_letter;
 use super::refusal::Refusal;
 
@@ -38,7 +43,18 @@ fn lay_record(out: &mut [u8], entry: Entry)
 {
     let [low, high] = entry.object.to_le_bytes();
     let [first, second, third, fourth] = entry.content.to_le_bytes();
-    out.copy_from_slice(&[entry.letter, entry.process, low, high, first, second, third, fourth]);
+    out.copy_from_slice(
+        &[
+            entry.letter,
+            entry.process,
+            low,
+            high,
+            first,
+            second,
+            third,
+            fourth,
+        ],
+    );
 }
 
 // Lays out the records one after another.
@@ -48,8 +64,8 @@ fn lay_records(out: &mut [u8], entries: &[Entry])
 {
     let mut at = 0;
     for entry in entries {
-        lay_record(&mut out[at..at + 8], *entry);
-        at += 8;
+        lay_record(&mut out[at..at + PLACE_LEN], *entry);
+        at += PLACE_LEN;
     }
 }
 
@@ -59,11 +75,11 @@ fn lay_body(out: &mut [u8], number: u32, entries: &[Entry])
     ensures { λ _. ⌜ now (out .exit) ≡ body-of number (now (entries .entry)) ⌝ }
 {
     let count = entries.len();
-    let end = 6 + 8 * count;
+    let end = HEAD_LEN + PLACE_LEN * count;
     out[0..2].copy_from_slice(&(count as u16).to_le_bytes());
-    out[2..6].copy_from_slice(&number.to_le_bytes());
-    lay_records(&mut out[6..end], entries);
-    out[end..510].fill(0);
+    out[2..HEAD_LEN].copy_from_slice(&number.to_le_bytes());
+    lay_records(&mut out[HEAD_LEN..end], entries);
+    out[end..BODY_LEN].fill(0);
 }
 
 // Lays out a whole block: its body, and the check of the body.
@@ -71,19 +87,19 @@ fn lay_block(out: &mut [u8], number: u32, entries: &[Entry])
     requires { ⌜ length (now out) ≡ 512 ⌝ ∗ ⌜ length (now entries) ≤ 63 ⌝ }
     ensures { λ _. ⌜ now (out .exit) ≡ block-of number (now (entries .entry)) ⌝ }
 {
-    lay_body(&mut out[0..510], number, entries);
+    lay_body(&mut out[0..BODY_LEN], number, entries);
     let check = check_of(out);
-    out[510..512].copy_from_slice(&check.to_le_bytes());
+    out[BODY_LEN..BLOCK_LEN].copy_from_slice(&check.to_le_bytes());
 }
 
 // Writes a block of these records under this number, or says which question refuses it and leaves the bytes as they were.
 pub fn write_block(out: &mut [u8], number: u32, entries: &[Entry]) -> Result<(), Refusal>
     ensures { λ r. ⌜ Wrote (now (out .entry)) number (now (entries .entry)) r (now (out .exit)) ⌝ }
 {
-    if out.len() != 512 {
+    if out.len() != BLOCK_LEN {
         return Err(Refusal::Length);
     }
-    if entries.len() > 63 {
+    if entries.len() > PLACES {
         return Err(Refusal::Count);
     }
     if !letters_known(entries) {

@@ -8,6 +8,7 @@ use Rattle.std.proofs.shelf.Lists.{at-drop-more, at-drop-all}
 use Rattle.blocks.specs.Checks.{weighted, check-of}
 use Rattle.blocks.proofs.check.check_of.Needs as need
 
+-- one product of the sum, with the last weight and the largest byte at most
 product : (c : need.After-from) → c .loop-byte .weight * c .from .result ≤ 510 * 255
 product c = mul-le (c .loop-byte .weight) (c .from .result) 510 255 (omega arith) (omega arith)
 
@@ -23,7 +24,7 @@ loop-byte-again c =
     let i = c .loop-byte .byte-index in
     let part = c .checked-part-part .result .now in
     let next : weighted w (drop i part) ≡ w * getD part i 0 + weighted (w + 1) (drop (i + 1) part) =
-        at-drop-more (weighted w) part i 0 (c .loop-byte-test .taken) in
+    at-drop-more (weighted w) part i 0 (c .loop-byte-test .taken) in
     let read : w * c .from .result ≡ w * getD part i 0 = ap (λ n. w * n) (c .from .ensures) in
     (omega arith, omega (arith, product c), omega (arith, next, read))
 
@@ -32,6 +33,6 @@ unfolding check-of
 returns c =
     let part = c .checked-part-part .result .now in
     let rest : weighted (c .loop-byte .weight) (drop (c .loop-byte .byte-index) part) ≡ 0 =
-        at-drop-all (weighted (c .loop-byte .weight)) part (c .loop-byte .byte-index) (c .loop-byte-test .left) in
+    at-drop-all (weighted (c .loop-byte .weight)) part (c .loop-byte .byte-index) (c .loop-byte-test .left) in
     let whole : c .loop-byte .sum ≡ weighted 1 part = omega (arith, rest) in
     ap (λ n. n % 65521) (whole ∙ ap (weighted 1) (c .checked-part-part .ensures .part))

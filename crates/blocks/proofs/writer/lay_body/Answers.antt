@@ -18,5 +18,5 @@ returns c =
     let y3 : c .lay-records .last .out ≡ joined eight-of (c .args .entries .now) = c .lay-records .ensures in
     let y4 : c .fill .last .self ≡ replicate (504 - 8 * n) 0 = zeros _ _ _ (c .fill .ensures .after (λ y e. e)) (search needs) in
     body-written (c .args .out .now) (c .copy-from-slice .last .self) (c .copy-from-slice-2 .last .self) (c .lay-records .last .out) (c .fill .last .self) (6 + 8 * n)
-      (omega arith) (ap length y1) (ap length y2) (search needs) (search needs)
+    (omega arith) (ap length y1) (ap length y2) (search needs) (search needs)
     ∙ cc
