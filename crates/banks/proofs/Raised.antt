@@ -23,12 +23,15 @@ none xs p h k = let l = long xs h in getD-past xs p 0 (omega arith)
 pub raised-at : (xs : List ℕ) (p u q : ℕ) → (getD (raised xs p u) q 0 ≡ getD xs q 0) ⊎ (getD (raised xs p u) q 0 ≡ max (getD xs q 0) u)
 raised-at xs p u q =
     elim (cases-bool (leb u (2 ^ 40))) [
-      inr e ↦ inl (simp e)
-    | inl e ↦ elim (cases-lt p (length xs)) [
-        inr o ↦ inl (simp e (ap (λ l. getD l q 0) (set-past xs p (max (getD xs p 0) u) o)))
-      | inl b ↦ elim (cases-eq q p) [
-          inl f ↦ inr (simp (e, f) (getD-set-same xs p (max (getD xs p 0) u) 0 b))
-        | inr n ↦ inl (simp e (getD-set-other xs p q (max (getD xs p 0) u) 0 n)) ] ] ]
+      | inr e ↦ inl (simp e)
+      | inl e ↦ elim (cases-lt p (length xs)) [
+        | inr o ↦ inl (simp e (ap (λ l. getD l q 0) (set-past xs p (max (getD xs p 0) u) o)))
+        | inl b ↦ elim (cases-eq q p) [
+          | inl f ↦ inr (simp (e, f) (getD-set-same xs p (max (getD xs p 0) u) 0 b))
+          | inr n ↦ inl (simp e (getD-set-other xs p q (max (getD xs p 0) u) 0 n))
+        ]
+      ]
+    ]
 
 pub raised-rises : (xs : List ℕ) (p u q : ℕ) → getD xs q 0 ≤ getD (raised xs p u) q 0
 raised-rises xs p u q = elim (raised-at xs p u q) [ inl e ↦ omega arith | inr e ↦ omega arith ]
@@ -39,8 +42,9 @@ raised-bounded xs p u q = elim (raised-at xs p u q) [ inl e ↦ omega arith | in
 pub raised-outside : (xs : List ℕ) (p u : ℕ) → length xs ≤ p → raised xs p u ≡ xs
 raised-outside xs p u o =
     elim (cases-bool (leb u (2 ^ 40))) [
-      inr e ↦ simp e
-    | inl e ↦ simp e (set-past xs p (max (getD xs p 0) u) o) ]
+      | inr e ↦ simp e
+      | inl e ↦ simp e (set-past xs p (max (getD xs p 0) u) o)
+    ]
 
 pub raised-beyond : (xs : List ℕ) (p u : ℕ) → 2 ^ 40 < u → raised xs p u ≡ xs
 raised-beyond xs p u o = let e : leb u (2 ^ 40) ≡ false = lt-leb u (2 ^ 40) o in simp e
@@ -55,5 +59,6 @@ pub raised-same : (xs : List ℕ) (p u : ℕ) → u ≤ getD xs p 0 → xs ≡ r
 raised-same xs p u k =
     let m : max (getD xs p 0) u ≡ getD xs p 0 = omega arith in
     elim (cases-bool (leb u (2 ^ 40))) [
-      inr e ↦ simp e
-    | inl e ↦ simp (e, m, set-getD) ]
+      | inr e ↦ simp e
+      | inl e ↦ simp (e, m, set-getD)
+    ]

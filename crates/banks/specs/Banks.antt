@@ -21,8 +21,9 @@ common-clock old p u = cond (leb p 63 && leb u (2 ^ 40)) (max old u) old
 pub common-small : (old p u : ℕ) → old ≤ 2 ^ 40 → common-clock old p u ≤ 2 ^ 40
 common-small old p u h =
     elim (cases-bool (leb p 63 && leb u (2 ^ 40))) [
-      inl e ↦ simp e (let k : u ≤ 2 ^ 40 = leb-true u (2 ^ 40) (and-parts (leb p 63) (leb u (2 ^ 40)) e .1) in omega arith)
-    | inr e ↦ simp e h ]
+      | inl e ↦ simp e (let k : u ≤ 2 ^ 40 = leb-true u (2 ^ 40) (and-parts (leb p 63) (leb u (2 ^ 40)) e .1) in omega arith)
+      | inr e ↦ simp e h
+    ]
 
 abbrev pub common-moved : CommonBank → ℕ → ℕ → CommonBank
 common-moved b p u = record { clock = common-clock (b .clock) p u; small = common-small (b .clock) p u (b .small) }

@@ -70,11 +70,11 @@ sound-facts e t p k s =
     record {
       ready = k;
       reads-named =
-        λ i w.
+          λ i w.
           let z : i < length (read-set t p) = omega arith in
           rw (part (t .reads) (p * 32) (process-at t p .reads) i (pair 0 0) w) at (named-at e os n (read-set t p) i (pair 0 0) (s4 .0) z);
       writes-named =
-        λ i w.
+          λ i w.
           let z : i < length (write-set t p) = omega arith in
           rw (part (t .writes) (p * 16) (process-at t p .writes) i (pair 0 e) w) at (named-at e os n (write-set t p) i (pair 0 e) (s4 .1) z);
     }

@@ -14,8 +14,8 @@ use Rattle.engine.specs.Outcome.{Outcome, outcome, going, answering, advanced,
 abbrev pub begin-at : {K : Type 0} → Tables K → ℕ → ℕ → ℕ → Outcome (Stepped K) K
 begin-at t p next low =
     cond (eqb (next + 1) (length (t .processes)))
-      (outcome (answering Nothing (Begun (process-at t p .steps + 1))) (with-process t p (completed (process-at t p) low)))
-      (outcome (going Nothing) (with-process t p (advanced (process-at t p) (Beginning (next + 1) low))))
+    (outcome (answering Nothing (Begun (process-at t p .steps + 1))) (with-process t p (completed (process-at t p) low)))
+    (outcome (going Nothing) (with-process t p (advanced (process-at t p) (Beginning (next + 1) low))))
 
 -- number is the bank's
 abbrev pub begin-step : {K : Type 0} → (ℕ → ℕ) → Tables K → ℕ → ℕ → ℕ → Outcome (Stepped K) K

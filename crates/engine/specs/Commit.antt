@@ -6,7 +6,6 @@ use Rattle.std.specs.declared.option.Option.{Option}
 use Rattle.std.specs.declared.option.Option.the-variants.{Some, None}
 use Rattle.tables.specs.Tables.{Tables, process-at, write-at, with-process, with-object}
 use Rattle.tables.specs.declared.memory.Object.{Object}
-use Rattle.tables.specs.declared.process.Ending.the-variants.{Abort}
 use Rattle.tables.specs.declared.process.Phase.the-variants.{Certifying, Storing}
 use Rattle.tables.specs.declared.process.Process.{Process}
 use Rattle.tables.specs.declared.reply.Answer.the-variants.{Committed}
@@ -25,8 +24,8 @@ committed empty t p effect = outcome (answering effect (Committed (process-at t 
 abbrev pub certified : {K : Type 0} → K → Tables K → ℕ → ℕ → Outcome (Stepped K) K
 certified empty t p i =
     cond (eqb (i + 1) (process-at t p .reads) && eqb (process-at t p .writes) 0)
-      (committed empty t p Nothing)
-      (outcome (going Nothing) (with-process t p (advanced (process-at t p) (Certifying (i + 1)))))
+    (committed empty t p Nothing)
+    (outcome (going Nothing) (with-process t p (advanced (process-at t p) (Certifying (i + 1)))))
 
 -- the stamp of a sealing step: 1 more than the larger of the clock and the bank's number, if that is at most 2^40
 abbrev pub seal-stamp : ℕ → ℕ → Option ℕ
@@ -40,7 +39,7 @@ sealed r stamp =
 -- the sealing step, by the stamp
 abbrev pub sealed-at : {K : Type 0} → K → Tables K → ℕ → Option ℕ → Outcome (Stepped K) K
 sealed-at empty t p (Some stamp) = outcome (going Sealed) (with-process t p (sealed (process-at t p) stamp))
-sealed-at empty t p None = stopped empty t p (Abort Spent)
+sealed-at empty t p None = stopped empty t p Spent
 
 -- the bank after it
 abbrev pub sealed-bank : {B : Type 0} → (B → ℕ → ℕ → B) → B → ℕ → Option ℕ → B
@@ -59,6 +58,6 @@ stored empty t p i =
 abbrev pub store-step : {K : Type 0} → K → Tables K → ℕ → ℕ → Outcome (Stepped K) K
 store-step empty t p i =
     cond (eqb (i + 1) (process-at t p .writes))
-      (committed empty (stored empty t p i) p (Stored (write-at empty t p i .object)))
-      (outcome (going (Stored (write-at empty t p i .object)))
-        (with-process (stored empty t p i) p (advanced (process-at t p) (Storing (i + 1)))))
+    (committed empty (stored empty t p i) p (Stored (write-at empty t p i .object)))
+    (outcome (going (Stored (write-at empty t p i .object)))
+    (with-process (stored empty t p i) p (advanced (process-at t p) (Storing (i + 1)))))

@@ -13,6 +13,7 @@ use Rattle.tables.specs.declared.process.Ending.the-variants.{Abort, Withdraw}
 use Rattle.tables.specs.declared.process.Phase.the-variants.{Freeing}
 use Rattle.tables.specs.declared.reply.Answer.{Answer}
 use Rattle.tables.specs.declared.reply.Answer.the-variants.{Aborted, Withdrawn}
+use Rattle.tables.specs.declared.reply.Conflict.{Conflict}
 use Rattle.tables.specs.declared.reply.Effect.{Effect}
 use Rattle.tables.specs.declared.reply.Effect.the-variants.{Nothing, Freed}
 use Rattle.tables.specs.declared.reply.Stepped.{Stepped}
@@ -44,11 +45,11 @@ given-up empty t p ending effect =
     outcome (answering effect (ending-answer ending (process-at t p .steps + 1))) (ended empty t p)
 
 -- A conflict: its step answers if nothing is held; otherwise each later step frees one object.
-abbrev pub stopped : {K : Type 0} → K → Tables K → ℕ → Ending → Outcome (Stepped K) K
-stopped empty t p ending =
+abbrev pub stopped : {K : Type 0} → K → Tables K → ℕ → Conflict → Outcome (Stepped K) K
+stopped empty t p conflict =
     cond (eqb (process-at t p .writes) 0)
-      (given-up empty t p ending Nothing)
-      (outcome (going Nothing) (with-process t p (advanced (process-at t p) (Freeing 0 ending))))
+    (given-up empty t p (Abort conflict) Nothing)
+    (outcome (going Nothing) (with-process t p (advanced (process-at t p) (Freeing 0 (Abort conflict)))))
 
 -- the object x with nobody as its holder
 abbrev pub unheld-object : {K : Type 0} → Object K → Object K
@@ -61,12 +62,12 @@ released empty t x = with-object t x (unheld-object (object-at empty t x))
 abbrev pub freed : {K : Type 0} → K → Tables K → ℕ → ℕ → ℕ → Ending → Outcome (Stepped K) K
 freed empty t p i x ending =
     cond (eqb (i + 1) (process-at t p .writes))
-      (given-up empty (released empty t x) p ending (Freed x))
-      (outcome (going (Freed x)) (with-process (released empty t x) p (advanced (process-at t p) (Freeing (i + 1) ending))))
+    (given-up empty (released empty t x) p ending (Freed x))
+    (outcome (going (Freed x)) (with-process (released empty t x) p (advanced (process-at t p) (Freeing (i + 1) ending))))
 
 -- A step that frees: a withdrawal with nothing held only answers.
 abbrev pub free-step : {K : Type 0} → K → Tables K → ℕ → ℕ → Ending → Outcome (Stepped K) K
 free-step empty t p i ending =
     cond (eqb (process-at t p .writes) 0)
-      (given-up empty t p ending Nothing)
-      (freed empty t p i (write-at empty t p i .object) ending)
+    (given-up empty t p ending Nothing)
+    (freed empty t p i (write-at empty t p i .object) ending)

@@ -17,14 +17,14 @@ use Rattle.engine.specs.Reads.{joined}
 abbrev pub extended : {K : Type 0} → K → Tables K → ℕ → ℕ → ℕ → Access → Outcome (Stepped K) K
 extended empty t p x to access.Read =
     outcome (answering Nothing (answer.Read (hand-at empty t p) (process-at t p .steps + 1)))
-      (joined t p x to to (value-of (read-set t p) x))
+    (joined t p x to to (value-of (read-set t p) x))
 extended empty t p x to access.Write =
     outcome (answering Nothing (answer.Written (process-at t p .steps + 1)))
-      (with-process t p (completed (process-at t p) to))
+    (with-process t p (completed (process-at t p) to))
 
 -- pair i has passed
 abbrev pub extension-passed : {K : Type 0} → K → Tables K → ℕ → ℕ → ℕ → ℕ → Access → Outcome (Stepped K) K
 extension-passed empty t p x to i a =
     cond (eqb (i + 1) (process-at t p .reads))
-      (extended empty t p x to a)
-      (outcome (going Nothing) (with-process t p (advanced (process-at t p) (Extending x to (i + 1) a))))
+    (extended empty t p x to a)
+    (outcome (going Nothing) (with-process t p (advanced (process-at t p) (Extending x to (i + 1) a))))

@@ -8,7 +8,6 @@ use Rattle.tables.specs.Lookup.{value-of, place-of}
 use Rattle.tables.specs.Tables.{Tables, process-at, read-set, write-set}
 use Rattle.tables.specs.declared.memory.Object.{Object}
 use Rattle.tables.specs.declared.process.Access.the-variants as access
-use Rattle.tables.specs.declared.process.Ending.the-variants.{Abort}
 use Rattle.tables.specs.declared.process.Phase.{Phase}
 use Rattle.tables.specs.declared.process.Phase.the-variants.{Idle, Beginning, Reading, Writing, Extending, Certifying, Storing, Freeing}
 use Rattle.tables.specs.declared.reply.Conflict.the-variants as conflict
@@ -48,8 +47,8 @@ passed empty t p (Storing next) o = outcome (going Nothing) t
 passed empty t p (Freeing next ending) o = outcome (going Nothing) t
 
 abbrev pub after-look : {K : Type 0} → K → Tables K → ℕ → Phase → Look K → Outcome (Stepped K) K
-after-look empty t p f (look.Held x) = stopped empty t p (Abort (conflict.Held x))
-after-look empty t p f (look.Changed x) = stopped empty t p (Abort (conflict.Changed x))
+after-look empty t p f (look.Held x) = stopped empty t p (conflict.Held x)
+after-look empty t p f (look.Changed x) = stopped empty t p (conflict.Changed x)
 after-look empty t p f (look.Passes o) = passed empty t p f o
 
 -- the first step of a read, by the pending content

@@ -52,8 +52,8 @@ object-no t p Withdraw = None
 abbrev pub request-no : {K : Type 0} → Tables K → ℕ → Request K → Option Refusal
 request-no t p q =
     cond (is-idle (process-at t p .phase))
-      (cond (due q (process-at t p .live)) (object-no t p q) (Some Transaction))
-      (Some InHand)
+    (cond (due q (process-at t p .live)) (object-no t p q) (Some Transaction))
+    (Some InHand)
 
 -- the phase that a request starts in
 abbrev pub first-phase : {K : Type 0} → Request K → Phase

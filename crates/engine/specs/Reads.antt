@@ -34,13 +34,13 @@ joined t p x stamp clock None =
 abbrev pub pending-read : {K : Type 0} → Tables K → ℕ → K → Outcome (Stepped K) K
 pending-read t p v =
     outcome (answering Nothing (Read v (process-at t p .steps + 1)))
-      (with-process (with-hand t p v) p (completed (process-at t p) (process-at t p .clock)))
+    (with-process (with-hand t p v) p (completed (process-at t p) (process-at t p .clock)))
 
 -- a read whose look has passed and found o: the content is in hand, and the read is answered or needs an extension
 abbrev pub admitted : {K : Type 0} → Tables K → ℕ → ℕ → Object K → Outcome (Stepped K) K
 admitted t p x o =
     cond (current (process-at t p) (o .stamp))
-      (outcome (answering Nothing (Read (o .content) (process-at t p .steps + 1)))
-        (joined (with-hand t p (o .content)) p x (o .stamp) (max (process-at t p .clock) (o .stamp)) (value-of (read-set t p) x)))
-      (outcome (going Nothing)
-        (with-process (with-hand t p (o .content)) p (advanced (process-at t p) (Extending x (o .stamp) 0 access.Read))))
+    (outcome (answering Nothing (Read (o .content) (process-at t p .steps + 1)))
+    (joined (with-hand t p (o .content)) p x (o .stamp) (max (process-at t p .clock) (o .stamp)) (value-of (read-set t p) x)))
+    (outcome (going Nothing)
+    (with-process (with-hand t p (o .content)) p (advanced (process-at t p) (Extending x (o .stamp) 0 access.Read))))

@@ -127,7 +127,7 @@ sound-ok empty t p =
 unfoldable pub refused : {K : Type 0} → K → Tables K → ℕ → Option Refusal
 refused empty t p =
     cond (sizes-ok t)
-      (cond (ltb p (length (t .processes)))
-        (cond (sound-ok empty t p) None (Some refusal.Record))
-        (Some refusal.Process))
-      (Some refusal.Sizes)
+    (cond (ltb p (length (t .processes)))
+    (cond (sound-ok empty t p) None (Some refusal.Record))
+    (Some refusal.Process))
+    (Some refusal.Sizes)

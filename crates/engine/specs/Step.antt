@@ -25,15 +25,15 @@ use Rattle.engine.specs.Sound.{refused}
 abbrev pub commit-step : {K : Type 0} → K → ℕ → Tables K → ℕ → ℕ → Outcome (Stepped K) K
 commit-step empty number t p next =
     cond (ltb next (process-at t p .reads))
-      (after-look empty t p (Certifying next) (pair-looked empty t p next))
-      (cond (eqb (process-at t p .writes) 0)
-        (committed empty t p Nothing)
-        (sealed-at empty t p (seal-stamp (process-at t p .clock) number)))
+    (after-look empty t p (Certifying next) (pair-looked empty t p next))
+    (cond (eqb (process-at t p .writes) 0)
+    (committed empty t p Nothing)
+    (sealed-at empty t p (seal-stamp (process-at t p .clock) number)))
 
 abbrev pub commit-bank : {K B : Type 0} → (B → ℕ → ℕ) → (B → ℕ → ℕ → B) → Tables K → B → ℕ → ℕ → B
 commit-bank number moved t b p next =
     cond (ltb next (process-at t p .reads)) b
-      (cond (eqb (process-at t p .writes) 0) b (sealed-bank moved b p (seal-stamp (process-at t p .clock) (number b p))))
+    (cond (eqb (process-at t p .writes) 0) b (sealed-bank moved b p (seal-stamp (process-at t p .clock) (number b p))))
 
 -- the step of each phase; number is the bank's
 abbrev pub phase-step : {K : Type 0} → K → (ℕ → ℕ) → Tables K → ℕ → Phase → Outcome (Result (Stepped K) Refusal) K

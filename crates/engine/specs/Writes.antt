@@ -18,7 +18,7 @@ use Rattle.engine.specs.Reads.{current}
 abbrev pub rewritten : {K : Type 0} → K → Tables K → ℕ → ℕ → ℕ → Outcome (Stepped K) K
 rewritten empty t p x i =
     outcome (answering Nothing (Written (process-at t p .steps + 1)))
-      (with-process (with-write t p i (pair x (hand-at empty t p))) p (completed (process-at t p) (process-at t p .clock)))
+    (with-process (with-write t p i (pair x (hand-at empty t p))) p (completed (process-at t p) (process-at t p .clock)))
 
 abbrev pub held-by : {K : Type 0} → Object K → ℕ → Object K
 held-by o p = record { content = o .content; stamp = o .stamp; holder = Some p }
@@ -37,7 +37,7 @@ holding empty t p x o r =
 abbrev pub held : {K : Type 0} → K → Tables K → ℕ → ℕ → Object K → Outcome (Stepped K) K
 held empty t p x o =
     cond (current (process-at t p) (o .stamp))
-      (outcome (answering (Took x) (Written (process-at t p .steps + 1)))
-        (holding empty t p x o (completed (write-joined (process-at t p)) (max (process-at t p .clock) (o .stamp)))))
-      (outcome (going (Took x))
-        (holding empty t p x o (advanced (write-joined (process-at t p)) (Extending x (o .stamp) 0 access.Write))))
+    (outcome (answering (Took x) (Written (process-at t p .steps + 1)))
+    (holding empty t p x o (completed (write-joined (process-at t p)) (max (process-at t p .clock) (o .stamp)))))
+    (outcome (going (Took x))
+    (holding empty t p x o (advanced (write-joined (process-at t p)) (Extending x (o .stamp) 0 access.Write))))

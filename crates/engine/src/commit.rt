@@ -5,23 +5,22 @@ ghost use lib.ListN.{length};
 ghost use Rattle.tables.specs.Tables.{tables-of, process-at, write-at};
 ghost use Rattle.engine.specs.Ready.{Ready};
 ghost use Rattle.engine.specs.Commit.{committed, certified, seal-stamp, sealed-at, sealed-bank, store-step};
-use banks::Bank;
-use banks::LARGEST;
-use tables::Answer;
-use tables::Conflict;
-use tables::Effect;
-use tables::Ending;
-use tables::Kind;
-use tables::Memory;
-use tables::Object;
-use tables::Phase;
-use tables::Stepped;
 use super::ends::end;
 use super::ends::stop;
 use super::places::go_on;
 use super::places::process;
 use super::places::set_object;
 use super::places::write_pair;
+use banks::Bank;
+use banks::LARGEST;
+use tables::Answer;
+use tables::Conflict;
+use tables::Effect;
+use tables::Kind;
+use tables::Memory;
+use tables::Object;
+use tables::Phase;
+use tables::Stepped;
 
 // Ends the transaction with the answer committed.
 pub(crate) fn finish_commit<K: Kind>(memory: &mut Memory<K>, p: usize, effect: Effect) -> Stepped<K>
@@ -31,7 +30,10 @@ pub(crate) fn finish_commit<K: Kind>(memory: &mut Memory<K>, p: usize, effect: E
 {
     let steps = process(memory, p).steps + 1;
     end(memory, p);
-    Stepped { effect, answer: Some(Answer::Committed { steps }) }
+    Stepped {
+        effect,
+        answer: Some(Answer::Committed { steps }),
+    }
 }
 
 // Certification's look at pair `next` has passed.
@@ -46,7 +48,10 @@ pub(crate) fn certify<K: Kind>(memory: &mut Memory<K>, p: usize, next: usize) ->
         return finish_commit(memory, p, Effect::Nothing);
     }
     go_on(memory, p, Phase::Certifying { next: next + 1 });
-    Stepped { effect: Effect::Nothing, answer: None }
+    Stepped {
+        effect: Effect::Nothing,
+        answer: None,
+    }
 }
 
 // The stamp of a sealing step, if one is left.
@@ -60,7 +65,11 @@ fn stamp_for(clock: u64, number: u64) -> Option<u64>
 }
 
 // The sealing step.
-pub(crate) fn seal_step<K: Kind, B: Bank>(memory: &mut Memory<K>, bank: &mut B, p: usize) -> Stepped<K>
+pub(crate) fn seal_step<K: Kind, B: Bank>(
+    memory: &mut Memory<K>,
+    bank: &mut B,
+    p: usize,
+) -> Stepped<K>
     requires { ⌜ Ready (tables-of (now memory)) p ⌝ }
     ensures reply { λ r. ⌜ r ≡ sealed-at (K·Kind .empty) (tables-of (now (memory .entry))) p (seal-stamp (process-at (tables-of (now (memory .entry))) p .clock) (B·Bank .number (now (bank .entry)) p)) .reply ⌝ }
     ensures after { λ _. ⌜ tables-of (now (memory .exit)) ≡ sealed-at (K·Kind .empty) (tables-of (now (memory .entry))) p (seal-stamp (process-at (tables-of (now (memory .entry))) p .clock) (B·Bank .number (now (bank .entry)) p)) .tables ⌝ }
@@ -74,9 +83,12 @@ pub(crate) fn seal_step<K: Kind, B: Bank>(memory: &mut Memory<K>, bank: &mut B, 
             r.clock = stamp;
             r.steps = before.steps + 1;
             r.phase = Phase::Storing { next: 0 };
-            Stepped { effect: Effect::Sealed, answer: None }
+            Stepped {
+                effect: Effect::Sealed,
+                answer: None,
+            }
         }
-        None => stop(memory, p, Ending::Abort { conflict: Conflict::Spent }),
+        None => stop(memory, p, Conflict::Spent),
     }
 }
 
@@ -90,11 +102,24 @@ pub(crate) fn store_step<K: Kind>(memory: &mut Memory<K>, p: usize, next: usize)
 {
     let r = process(memory, p);
     let pair = write_pair(memory, p, next);
-    set_object(memory, pair.object, Object { content: pair.value.copied(), stamp: r.clock, holder: None });
-    let effect = Effect::Stored { object: pair.object };
+    set_object(
+        memory,
+        pair.object,
+        Object {
+            content: pair.value.copied(),
+            stamp: r.clock,
+            holder: None,
+        },
+    );
+    let effect = Effect::Stored {
+        object: pair.object,
+    };
     if next + 1 == r.writes {
         return finish_commit(memory, p, effect);
     }
     go_on(memory, p, Phase::Storing { next: next + 1 });
-    Stepped { effect, answer: None }
+    Stepped {
+        effect,
+        answer: None,
+    }
 }

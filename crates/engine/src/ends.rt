@@ -7,21 +7,22 @@ ghost use Rattle.tables.specs.Lookup.{pair};
 ghost use Rattle.tables.specs.Tables.{tables-of, process-at, write-at};
 ghost use Rattle.engine.specs.Ready.{Ready};
 ghost use Rattle.engine.specs.Ends.{wiped, ended, ending-answer, given-up, stopped, released, freed, free-step};
-use tables::Answer;
-use tables::Effect;
-use tables::Ending;
-use tables::Kind;
-use tables::Memory;
-use tables::Phase;
-use tables::Slot;
-use tables::Stepped;
-use tables::READ_PLACES;
-use tables::WRITE_PLACES;
 use super::places::go_on;
 use super::places::object;
 use super::places::process;
 use super::places::set_object;
 use super::places::write_pair;
+use tables::Answer;
+use tables::Conflict;
+use tables::Effect;
+use tables::Ending;
+use tables::Kind;
+use tables::Memory;
+use tables::Phase;
+use tables::READ_PLACES;
+use tables::Slot;
+use tables::Stepped;
+use tables::WRITE_PLACES;
 
 // Zeroes and blanks n places from `at` on.
 fn wipe<V: Copy>(places: &mut Vec<Slot<V>>, at: usize, n: usize, blank: V)
@@ -29,7 +30,10 @@ fn wipe<V: Copy>(places: &mut Vec<Slot<V>>, at: usize, n: usize, blank: V)
     ensures { λ _. ⌜ vec-items (now (places .exit)) ≡ wiped (vec-items (now (places .entry))) at n (pair 0 blank) ⌝ }
 {
     for i in 0..n {
-        places[at + i] = Slot { object: 0, value: blank };
+        places[at + i] = Slot {
+            object: 0,
+            value: blank,
+        };
     }
 }
 
@@ -39,7 +43,12 @@ pub(crate) fn end<K: Kind>(memory: &mut Memory<K>, p: usize)
     ensures { λ _. ⌜ tables-of (now (memory .exit)) ≡ ended (K·Kind .empty) (tables-of (now (memory .entry))) p ⌝ }
 {
     wipe(&mut memory.reads, p * READ_PLACES, READ_PLACES, 0);
-    wipe(&mut memory.writes, p * WRITE_PLACES, WRITE_PLACES, K::blank());
+    wipe(
+        &mut memory.writes,
+        p * WRITE_PLACES,
+        WRITE_PLACES,
+        K::blank(),
+    );
     memory.hands[p] = K::blank();
     let r = &mut memory.processes[p];
     r.live = false;
@@ -67,20 +76,27 @@ fn give_up<K: Kind>(memory: &mut Memory<K>, p: usize, ending: Ending, effect: Ef
 {
     let steps = process(memory, p).steps + 1;
     end(memory, p);
-    Stepped { effect, answer: Some(answer_to(ending, steps)) }
+    Stepped {
+        effect,
+        answer: Some(answer_to(ending, steps)),
+    }
 }
 
 // A conflict: the transaction is given up, once what it holds is freed.
-pub(crate) fn stop<K: Kind>(memory: &mut Memory<K>, p: usize, ending: Ending) -> Stepped<K>
+pub(crate) fn stop<K: Kind>(memory: &mut Memory<K>, p: usize, conflict: Conflict) -> Stepped<K>
     requires { ⌜ Ready (tables-of (now memory)) p ⌝ }
-    ensures reply { λ r. ⌜ r ≡ stopped (K·Kind .empty) (tables-of (now (memory .entry))) p ending .reply ⌝ }
-    ensures after { λ _. ⌜ tables-of (now (memory .exit)) ≡ stopped (K·Kind .empty) (tables-of (now (memory .entry))) p ending .tables ⌝ }
+    ensures reply { λ r. ⌜ r ≡ stopped (K·Kind .empty) (tables-of (now (memory .entry))) p conflict .reply ⌝ }
+    ensures after { λ _. ⌜ tables-of (now (memory .exit)) ≡ stopped (K·Kind .empty) (tables-of (now (memory .entry))) p conflict .tables ⌝ }
 {
+    let ending = Ending::Abort { conflict };
     if process(memory, p).writes == 0 {
         return give_up(memory, p, ending, Effect::Nothing);
     }
     go_on(memory, p, Phase::Freeing { next: 0, ending });
-    Stepped { effect: Effect::Nothing, answer: None }
+    Stepped {
+        effect: Effect::Nothing,
+        answer: None,
+    }
 }
 
 // Leaves the object x with nobody as its holder.
@@ -94,7 +110,13 @@ fn release<K: Kind>(memory: &mut Memory<K>, x: usize)
 }
 
 // Frees the object of pair `next` of the write set.
-fn free_object<K: Kind>(memory: &mut Memory<K>, p: usize, next: usize, x: usize, ending: Ending) -> Stepped<K>
+fn free_object<K: Kind>(
+    memory: &mut Memory<K>,
+    p: usize,
+    next: usize,
+    x: usize,
+    ending: Ending,
+) -> Stepped<K>
     requires ready { ⌜ Ready (tables-of (now memory)) p ⌝ }
     requires due { ⌜ next < process-at (tables-of (now memory)) p .writes ⌝ }
     requires named { ⌜ x < length (tables-of (now memory) .objects) ⌝ }
@@ -106,12 +128,27 @@ fn free_object<K: Kind>(memory: &mut Memory<K>, p: usize, next: usize, x: usize,
     if next + 1 == process(memory, p).writes {
         return give_up(memory, p, ending, effect);
     }
-    go_on(memory, p, Phase::Freeing { next: next + 1, ending });
-    Stepped { effect, answer: None }
+    go_on(
+        memory,
+        p,
+        Phase::Freeing {
+            next: next + 1,
+            ending,
+        },
+    );
+    Stepped {
+        effect,
+        answer: None,
+    }
 }
 
 // A step of a transaction that is given up; with nothing held it only answers.
-pub(crate) fn free_step<K: Kind>(memory: &mut Memory<K>, p: usize, next: usize, ending: Ending) -> Stepped<K>
+pub(crate) fn free_step<K: Kind>(
+    memory: &mut Memory<K>,
+    p: usize,
+    next: usize,
+    ending: Ending,
+) -> Stepped<K>
     requires ready { ⌜ Ready (tables-of (now memory)) p ⌝ }
     requires due { ⌜ (0 < process-at (tables-of (now memory)) p .writes → next < process-at (tables-of (now memory)) p .writes) ⌝ }
     requires named { ⌜ (next < process-at (tables-of (now memory)) p .writes → write-at (K·Kind .empty) (tables-of (now memory)) p next .object < length (tables-of (now memory) .objects)) ⌝ }

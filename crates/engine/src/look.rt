@@ -5,11 +5,11 @@ ghost use lib.ListN.{length};
 ghost use Rattle.tables.specs.Tables.{tables-of, read-at};
 ghost use Rattle.engine.specs.Ready.{Ready};
 ghost use Rattle.engine.specs.Look.{judged, looked, pair-looked};
+use super::places::object;
+use super::places::read_pair;
 use tables::Kind;
 use tables::Memory;
 use tables::Object;
-use super::places::object;
-use super::places::read_pair;
 
 // What a look finds: another holder, another stamp than the one that was seen, or neither.
 #[derive(Drop)]
@@ -23,7 +23,9 @@ pub enum Look<K> {
 fn judge<K: Kind>(found: Object<K>, p: usize, x: usize, seen: Option<u64>) -> Look<K>
     ensures { λ r. ⌜ r ≡ judged found p x seen ⌝ }
 {
-    if let Some(q) = found.holder && q != p {
+    if let Some(q) = found.holder
+        && q != p
+    {
         return Look::Held { object: x };
     }
     match seen {

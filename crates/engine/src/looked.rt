@@ -7,12 +7,6 @@ ghost use Rattle.tables.specs.Lookup.{value-of, place-of};
 ghost use Rattle.tables.specs.Tables.{tables-of, process-at, read-set, write-set};
 ghost use Rattle.engine.specs.Ready.{Ready};
 ghost use Rattle.engine.specs.Looked.{Looks, after-look, read-step, write-step};
-use tables::Conflict;
-use tables::Ending;
-use tables::Kind;
-use tables::Memory;
-use tables::Phase;
-use tables::Stepped;
 use super::commit::certify;
 use super::ends::stop;
 use super::extend::pass_extension;
@@ -24,22 +18,43 @@ use super::reads::admit_read;
 use super::reads::read_pending;
 use super::writes::hold;
 use super::writes::rewrite;
+use tables::Conflict;
+use tables::Kind;
+use tables::Memory;
+use tables::Phase;
+use tables::Stepped;
 
 // The rest of a step after its look.
-pub(crate) fn follow_look<K: Kind>(memory: &mut Memory<K>, p: usize, phase: Phase, look: Look<K>) -> Stepped<K>
+pub(crate) fn follow_look<K: Kind>(
+    memory: &mut Memory<K>,
+    p: usize,
+    phase: Phase,
+    look: Look<K>,
+) -> Stepped<K>
     requires ready { ⌜ Ready (tables-of (now memory)) p ⌝ }
     requires looks { ⌜ Looks (tables-of (now memory)) p phase ⌝ }
     ensures reply { λ r. ⌜ r ≡ after-look (K·Kind .empty) (tables-of (now (memory .entry))) p phase look .reply ⌝ }
     ensures after { λ _. ⌜ tables-of (now (memory .exit)) ≡ after-look (K·Kind .empty) (tables-of (now (memory .entry))) p phase look .tables ⌝ }
 {
     match (phase, look) {
-        (_, Look::Held { object }) => stop(memory, p, Ending::Abort { conflict: Conflict::Held { object } }),
-        (_, Look::Changed { object }) => stop(memory, p, Ending::Abort { conflict: Conflict::Changed { object } }),
+        (_, Look::Held { object }) => stop(memory, p, Conflict::Held { object }),
+        (_, Look::Changed { object }) => stop(memory, p, Conflict::Changed { object }),
         (Phase::Reading { object }, Look::Passes { found }) => admit_read(memory, p, object, found),
         (Phase::Writing { object }, Look::Passes { found }) => hold(memory, p, object, found),
-        (Phase::Extending { object, to, next, access }, Look::Passes { .. }) => pass_extension(memory, p, object, to, next, access),
+        (
+            Phase::Extending {
+                object,
+                to,
+                next,
+                access,
+            },
+            Look::Passes { .. },
+        ) => pass_extension(memory, p, object, to, next, access),
         (Phase::Certifying { next }, Look::Passes { .. }) => certify(memory, p, next),
-        (Phase::Idle | Phase::Beginning { .. } | Phase::Storing { .. } | Phase::Freeing { .. }, Look::Passes { .. }) => unreachable(),
+        (
+            Phase::Idle | Phase::Beginning { .. } | Phase::Storing { .. } | Phase::Freeing { .. },
+            Look::Passes { .. },
+        ) => unreachable(),
     }
 }
 

@@ -11,10 +11,10 @@ use tables::Memory;
 use tables::Object;
 use tables::Phase;
 use tables::Process;
-use tables::Slot;
-use tables::put;
 use tables::READ_PLACES;
+use tables::Slot;
 use tables::WRITE_PLACES;
+use tables::put;
 
 pub(crate) fn process<K: Kind>(memory: &Memory<K>, p: usize) -> Process
     requires { ⌜ p < length (tables-of (now memory) .processes) ⌝ }
@@ -116,7 +116,9 @@ pub(crate) fn read_set<K: Kind>(memory: &Memory<K>, p: usize) -> Map<'_, u64>
     let count = process(memory, p).reads;
     let at = p * READ_PLACES;
     let all = memory.reads.as_slice();
-    Map { slots: &all[at..at + count] }
+    Map {
+        slots: &all[at..at + count],
+    }
 }
 
 // The write set of p.
@@ -128,5 +130,7 @@ pub(crate) fn write_set<K: Kind>(memory: &Memory<K>, p: usize) -> Map<'_, K>
     let count = process(memory, p).writes;
     let at = p * WRITE_PLACES;
     let all = memory.writes.as_slice();
-    Map { slots: &all[at..at + count] }
+    Map {
+        slots: &all[at..at + count],
+    }
 }

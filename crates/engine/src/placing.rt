@@ -5,6 +5,11 @@ ghost use lib.ListN.{length};
 ghost use Rattle.tables.specs.Tables.{tables-of, process-at};
 ghost use Rattle.engine.specs.Ready.{Ready};
 ghost use Rattle.engine.specs.Place.{is-idle, due as is-due, access-no, object-no, request-no, first-phase, handed, place-call};
+use super::places::process;
+use super::places::set_hand;
+use super::questions::questions;
+use super::sound::readable;
+use super::sound::writable;
 use banks::LARGEST;
 use tables::Ending;
 use tables::Kind;
@@ -12,11 +17,6 @@ use tables::Memory;
 use tables::Phase;
 use tables::Refusal;
 use tables::Request;
-use super::places::process;
-use super::places::set_hand;
-use super::questions::questions;
-use super::sound::readable;
-use super::sound::writable;
 
 // Is no request in hand?
 fn idle(phase: Phase) -> bool
@@ -55,7 +55,11 @@ fn object_question<K: Kind>(memory: &Memory<K>, p: usize, request: Request<K>) -
 {
     match request {
         Request::Read { object } => access_question(memory, object, readable(memory, p, object)),
-        Request::Write { object, .. } => access_question(memory, object, writable(memory, p, object)),
+        Request::Write { object, .. } => access_question(
+            memory,
+            object,
+            writable(memory, p, object),
+        ),
         _ => None,
     }
 }
@@ -80,11 +84,17 @@ fn phase_for<K: Kind>(request: Request<K>) -> Phase
     ensures { λ r. ⌜ r ≡ first-phase request ⌝ }
 {
     match request {
-        Request::Begin => Phase::Beginning { next: 0, least: LARGEST },
+        Request::Begin => Phase::Beginning {
+            next: 0,
+            least: LARGEST,
+        },
         Request::Read { object } => Phase::Reading { object },
         Request::Write { object, .. } => Phase::Writing { object },
         Request::Commit => Phase::Certifying { next: 0 },
-        Request::Withdraw => Phase::Freeing { next: 0, ending: Ending::Withdraw },
+        Request::Withdraw => Phase::Freeing {
+            next: 0,
+            ending: Ending::Withdraw,
+        },
     }
 }
 

@@ -6,16 +6,16 @@ ghost use Rattle.std.specs.declared.option.Option.the-variants.{Some, None};
 ghost use Rattle.tables.specs.Tables.{tables-of, process-at};
 ghost use Rattle.engine.specs.Ready.{Sound, PhaseFacts};
 ghost use Rattle.engine.specs.Sound.{refused};
-use tables::Kind;
-use tables::Memory;
-use tables::Process;
-use tables::Refusal;
 use super::places::process;
 use super::sound::counts_fit;
 use super::sound::phase_fits;
 use super::sound::sets_fit;
 use super::sound::sized;
 use super::sound::steps_fit;
+use tables::Kind;
+use tables::Memory;
+use tables::Process;
+use tables::Refusal;
 
 // The record of p, or the first question that is answered no.
 pub(crate) fn questions<K: Kind>(memory: &Memory<K>, p: usize) -> Result<Process, Refusal>

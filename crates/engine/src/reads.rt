@@ -7,6 +7,12 @@ ghost use Rattle.tables.specs.Lookup.{value-of};
 ghost use Rattle.tables.specs.Tables.{tables-of, process-at, read-set};
 ghost use Rattle.engine.specs.Ready.{Ready};
 ghost use Rattle.engine.specs.Reads.{current, joined, pending-read, admitted};
+use super::places::complete;
+use super::places::go_on;
+use super::places::process;
+use super::places::read_set;
+use super::places::set_hand;
+use super::places::set_read_pair;
 use tables::Access;
 use tables::Answer;
 use tables::Effect;
@@ -17,12 +23,6 @@ use tables::Phase;
 use tables::Process;
 use tables::Slot;
 use tables::Stepped;
-use super::places::complete;
-use super::places::go_on;
-use super::places::process;
-use super::places::read_set;
-use super::places::set_hand;
-use super::places::set_read_pair;
 
 // Does an access at a stamp need no extension?
 pub(crate) fn is_current(r: &Process, stamp: u64) -> bool
@@ -40,7 +40,13 @@ pub(crate) fn read_pending<K: Kind>(memory: &mut Memory<K>, p: usize, content: K
     let r = process(memory, p);
     set_hand(memory, p, content);
     complete(memory, p, r.clock);
-    Stepped { effect: Effect::Nothing, answer: Some(Answer::Read { content, steps: r.steps + 1 }) }
+    Stepped {
+        effect: Effect::Nothing,
+        answer: Some(Answer::Read {
+            content,
+            steps: r.steps + 1,
+        }),
+    }
 }
 
 // The read of x is answered at the clock: its pair joins the read set where x is not in it.
@@ -53,7 +59,15 @@ pub(crate) fn join_read<K: Kind>(memory: &mut Memory<K>, p: usize, x: usize, sta
     match read_set(memory, p).get(x) {
         Some(_) => complete(memory, p, clock),
         None => {
-            set_read_pair(memory, p, count, Slot { object: x, value: stamp });
+            set_read_pair(
+                memory,
+                p,
+                count,
+                Slot {
+                    object: x,
+                    value: stamp,
+                },
+            );
             let r = &mut memory.processes[p];
             r.clock = clock;
             r.reads = count + 1;
@@ -64,7 +78,12 @@ pub(crate) fn join_read<K: Kind>(memory: &mut Memory<K>, p: usize, x: usize, sta
 }
 
 // The look of a read has passed.
-pub(crate) fn admit_read<K: Kind>(memory: &mut Memory<K>, p: usize, x: usize, found: Object<K>) -> Stepped<K>
+pub(crate) fn admit_read<K: Kind>(
+    memory: &mut Memory<K>,
+    p: usize,
+    x: usize,
+    found: Object<K>,
+) -> Stepped<K>
     requires ready { ⌜ Ready (tables-of (now memory)) p ⌝ }
     requires room { ⌜ (value-of (read-set (tables-of (now memory)) p) x ≡ None → process-at (tables-of (now memory)) p .reads < 32) ⌝ }
     ensures reply { λ r. ⌜ r ≡ admitted (tables-of (now (memory .entry))) p x found .reply ⌝ }
@@ -75,8 +94,26 @@ pub(crate) fn admit_read<K: Kind>(memory: &mut Memory<K>, p: usize, x: usize, fo
     set_hand(memory, p, content);
     if is_current(&r, found.stamp) {
         join_read(memory, p, x, found.stamp, r.clock.max(found.stamp));
-        return Stepped { effect: Effect::Nothing, answer: Some(Answer::Read { content, steps: r.steps + 1 }) };
+        return Stepped {
+            effect: Effect::Nothing,
+            answer: Some(Answer::Read {
+                content,
+                steps: r.steps + 1,
+            }),
+        };
     }
-    go_on(memory, p, Phase::Extending { object: x, to: found.stamp, next: 0, access: Access::Read });
-    Stepped { effect: Effect::Nothing, answer: None }
+    go_on(
+        memory,
+        p,
+        Phase::Extending {
+            object: x,
+            to: found.stamp,
+            next: 0,
+            access: Access::Read,
+        },
+    );
+    Stepped {
+        effect: Effect::Nothing,
+        answer: None,
+    }
 }

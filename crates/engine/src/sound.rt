@@ -6,6 +6,9 @@ ghost use lib.Dec.{leb};
 ghost use Rattle.tables.specs.Tables.{tables-of, process-at, sizes-ok};
 ghost use Rattle.engine.specs.Ready.{Ready};
 ghost use Rattle.engine.specs.Sound.{object-ok, named-ok, all-named, distinct as apart, stamps-ok, counts-ok, room, sets-ok, readable as can-read, writable as can-write, access-room, conflict-ok, ending-ok, steps-left, phase-ok};
+use super::places::process;
+use super::places::read_set;
+use super::places::write_set;
 use banks::LARGEST;
 use tables::Access;
 use tables::Conflict;
@@ -16,13 +19,10 @@ use tables::Memory;
 use tables::Object;
 use tables::Phase;
 use tables::Process;
-use tables::Slot;
 use tables::READ_PLACES;
+use tables::Slot;
 use tables::WRITE_PLACES;
 use tables::numbers_fit;
-use super::places::process;
-use super::places::read_set;
-use super::places::write_set;
 
 // The steps of a request, done and still possible.
 const MOST_STEPS: usize = 64;
@@ -42,7 +42,10 @@ pub(crate) fn sized<K: Kind>(memory: &Memory<K>) -> bool
 pub(crate) fn counts_fit(r: &Process) -> bool
     ensures { λ b. ⌜ b ≡ counts-ok (now (r .entry)) ⌝ }
 {
-    r.reads <= READ_PLACES && r.writes <= WRITE_PLACES && r.clock <= LARGEST && r.steps <= MOST_STEPS
+    r.reads <= READ_PLACES
+        && r.writes <= WRITE_PLACES
+        && r.clock <= LARGEST
+        && r.steps <= MOST_STEPS
 }
 
 // Are the stamp and the holder in range?
@@ -94,7 +97,9 @@ fn all_apart<V: Copy>(slots: &[Slot<V>]) -> bool
     ensures { λ r. ⌜ r ≡ apart (now (slots .entry)) ⌝ }
 {
     for (i, slot) in slots.iter().enumerate() {
-        let rest = Map { slots: &slots[i + 1..] };
+        let rest = Map {
+            slots: &slots[i + 1..],
+        };
         if rest.get(slot.object).is_some() {
             return false;
         }
@@ -111,7 +116,11 @@ pub(crate) fn sets_fit<K: Kind>(memory: &Memory<K>, p: usize) -> bool
     let count = memory.processes.len();
     let reads = read_set(memory, p).slots;
     let writes = write_set(memory, p).slots;
-    all_named(objects, count, reads) && all_named(objects, count, writes) && stamps_fit(reads) && all_apart(reads) && all_apart(writes)
+    all_named(objects, count, reads)
+        && all_named(objects, count, writes)
+        && stamps_fit(reads)
+        && all_apart(reads)
+        && all_apart(writes)
 }
 
 // Is x in the set of n pairs, or has the set a free place?
@@ -126,7 +135,13 @@ pub(crate) fn readable<K: Kind>(memory: &Memory<K>, p: usize, x: usize) -> bool
     requires { ⌜ Ready (tables-of (now memory)) p ⌝ }
     ensures { λ r. ⌜ r ≡ can-read (tables-of (now (memory .entry))) p x ⌝ }
 {
-    write_set(memory, p).get(x).is_some() || has_room(read_set(memory, p), process(memory, p).reads, READ_PLACES, x)
+    write_set(memory, p).get(x).is_some()
+        || has_room(
+            read_set(memory, p),
+            process(memory, p).reads,
+            READ_PLACES,
+            x,
+        )
 }
 
 // May p write x: is it in the write set of p, or has that a free place?
@@ -134,7 +149,12 @@ pub(crate) fn writable<K: Kind>(memory: &Memory<K>, p: usize, x: usize) -> bool
     requires { ⌜ Ready (tables-of (now memory)) p ⌝ }
     ensures { λ r. ⌜ r ≡ can-write (tables-of (now (memory .entry))) p x ⌝ }
 {
-    has_room(write_set(memory, p), process(memory, p).writes, WRITE_PLACES, x)
+    has_room(
+        write_set(memory, p),
+        process(memory, p).writes,
+        WRITE_PLACES,
+        x,
+    )
 }
 
 // Has the pair of an extended access a place?
@@ -143,7 +163,12 @@ fn access_fits<K: Kind>(memory: &Memory<K>, p: usize, x: usize, access: Access) 
     ensures { λ r. ⌜ r ≡ access-room (tables-of (now (memory .entry))) p x access ⌝ }
 {
     match access {
-        Access::Read => has_room(read_set(memory, p), process(memory, p).reads, READ_PLACES, x),
+        Access::Read => has_room(
+            read_set(memory, p),
+            process(memory, p).reads,
+            READ_PLACES,
+            x,
+        ),
         Access::Write => true,
     }
 }
@@ -178,12 +203,24 @@ fn possible_steps<K: Kind>(memory: &Memory<K>, p: usize, r: Process) -> usize
     match r.phase {
         Phase::Idle => 0,
         Phase::Beginning { next, .. } => memory.processes.len().saturating_sub(next),
-        Phase::Reading { object } => if write_set(memory, p).get(object).is_some() { 1 } else { 1 + r.reads + r.writes },
-        Phase::Writing { object } => if write_set(memory, p).get(object).is_some() { 1 } else { 2 + r.reads + r.writes },
+        Phase::Reading { object } => if write_set(memory, p).get(object).is_some() {
+            1
+        } else {
+            1 + r.reads + r.writes
+        },
+        Phase::Writing { object } => if write_set(memory, p).get(object).is_some() {
+            1
+        } else {
+            2 + r.reads + r.writes
+        },
         Phase::Extending { next, .. } => r.reads.saturating_sub(next) + r.writes,
         Phase::Certifying { next } => r.reads.saturating_sub(next) + 1 + r.writes,
         Phase::Storing { next } => r.writes.saturating_sub(next),
-        Phase::Freeing { next, .. } => if r.writes == 0 { 1 } else { r.writes.saturating_sub(next) },
+        Phase::Freeing { next, .. } => if r.writes == 0 {
+            1
+        } else {
+            r.writes.saturating_sub(next)
+        },
     }
 }
 
@@ -207,13 +244,24 @@ pub(crate) fn phase_fits<K: Kind>(memory: &Memory<K>, p: usize, r: Process) -> b
     match r.phase {
         Phase::Idle => true,
         Phase::Beginning { next, least } => next < count && least <= LARGEST,
-        Phase::Reading { object } => is_named(objects, count, object) && readable(memory, p, object),
-        Phase::Writing { object } => is_named(objects, count, object) && writable(memory, p, object),
-        Phase::Extending { object, to, next, access } => {
-            is_named(objects, count, object) && to <= LARGEST && next < r.reads && access_fits(memory, p, object, access)
+        Phase::Reading { object } => is_named(objects, count, object)
+            && readable(memory, p, object),
+        Phase::Writing { object } => is_named(objects, count, object)
+            && writable(memory, p, object),
+        Phase::Extending {
+            object,
+            to,
+            next,
+            access,
+        } => {
+            is_named(objects, count, object)
+                && to <= LARGEST
+                && next < r.reads
+                && access_fits(memory, p, object, access)
         }
         Phase::Certifying { next } => next <= r.reads,
         Phase::Storing { next } => next < r.writes,
-        Phase::Freeing { next, ending } => (r.writes == 0 || next < r.writes) && ending_fits(objects, count, ending),
+        Phase::Freeing { next, ending } => (r.writes == 0 || next < r.writes)
+            && ending_fits(objects, count, ending),
     }
 }

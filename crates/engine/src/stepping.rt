@@ -7,13 +7,6 @@ ghost use Rattle.engine.specs.Ready.{Ready, Sound, PhaseFacts};
 ghost use Rattle.engine.specs.Look.{pair-looked};
 ghost use Rattle.engine.specs.Looked.{Looks, after-look};
 ghost use Rattle.engine.specs.Step.{commit-step, commit-bank, phase-step, phase-bank, step-call, step-bank};
-use banks::Bank;
-use tables::Effect;
-use tables::Kind;
-use tables::Memory;
-use tables::Phase;
-use tables::Refusal;
-use tables::Stepped;
 use super::begin::begin_step;
 use super::commit::finish_commit;
 use super::commit::seal_step;
@@ -25,9 +18,21 @@ use super::looked::read_step;
 use super::looked::write_step;
 use super::places::process;
 use super::questions::questions;
+use banks::Bank;
+use tables::Effect;
+use tables::Kind;
+use tables::Memory;
+use tables::Phase;
+use tables::Refusal;
+use tables::Stepped;
 
 // A step of a commit before anything is stored.
-fn commit_step<K: Kind, B: Bank>(memory: &mut Memory<K>, bank: &mut B, p: usize, next: usize) -> Stepped<K>
+fn commit_step<K: Kind, B: Bank>(
+    memory: &mut Memory<K>,
+    bank: &mut B,
+    p: usize,
+    next: usize,
+) -> Stepped<K>
     requires ready { ⌜ Ready (tables-of (now memory)) p ⌝ }
     requires named { ⌜ (next < process-at (tables-of (now memory)) p .reads → read-at (tables-of (now memory)) p next .object < length (tables-of (now memory) .objects)) ⌝ }
     ensures reply { λ r. ⌜ r ≡ commit-step (K·Kind .empty) (B·Bank .number (now (bank .entry)) p) (tables-of (now (memory .entry))) p next .reply ⌝ }
@@ -59,7 +64,12 @@ fn extend_step<K: Kind>(memory: &mut Memory<K>, p: usize, phase: Phase, next: us
 }
 
 // The step of a phase.
-fn phase_step<K: Kind, B: Bank>(memory: &mut Memory<K>, bank: &mut B, p: usize, phase: Phase) -> Result<Stepped<K>, Refusal>
+fn phase_step<K: Kind, B: Bank>(
+    memory: &mut Memory<K>,
+    bank: &mut B,
+    p: usize,
+    phase: Phase,
+) -> Result<Stepped<K>, Refusal>
     requires sound { ⌜ Sound (K·Kind .empty) (tables-of (now memory)) p ⌝ }
     requires facts { ⌜ PhaseFacts (tables-of (now memory)) p phase ⌝ }
     ensures reply { λ r. ⌜ r ≡ phase-step (K·Kind .empty) (B·Bank .number (now (bank .entry))) (tables-of (now (memory .entry))) p phase .reply ⌝ }
@@ -79,7 +89,11 @@ fn phase_step<K: Kind, B: Bank>(memory: &mut Memory<K>, bank: &mut B, p: usize, 
 }
 
 // One step of process p: its effect and its answer, if it completes the request.
-pub fn step<K: Kind, B: Bank>(memory: &mut Memory<K>, bank: &mut B, p: usize) -> Result<Stepped<K>, Refusal>
+pub fn step<K: Kind, B: Bank>(
+    memory: &mut Memory<K>,
+    bank: &mut B,
+    p: usize,
+) -> Result<Stepped<K>, Refusal>
     ensures reply { λ r. ⌜ r ≡ step-call (K·Kind .empty) (B·Bank .number (now (bank .entry))) (tables-of (now (memory .entry))) p .reply ⌝ }
     ensures after { λ _. ⌜ tables-of (now (memory .exit)) ≡ step-call (K·Kind .empty) (B·Bank .number (now (bank .entry))) (tables-of (now (memory .entry))) p .tables ⌝ }
     ensures bank { λ _. ⌜ now (bank .exit) ≡ step-bank (K·Kind .empty) (B·Bank .number) (B·Bank .moved) (tables-of (now (memory .entry))) (now (bank .entry)) p ⌝ }

@@ -4,6 +4,9 @@ ghost use Rattle.std.specs.Of.Vec.{vec-items};
 ghost use Rattle.std.specs.Results.{Cases};
 ghost use Rattle.tables.specs.Tables.{tables-of};
 ghost use Rattle.journal.specs.Runs.{world, placing-reply, step-reply, reply-to, after-call, Ran};
+use super::call::Call;
+use super::call::Line;
+use super::call::Reply;
 use banks::Bank;
 use engine::place;
 use engine::step;
@@ -13,9 +16,6 @@ use tables::Kind;
 use tables::Memory;
 use tables::Refusal;
 use tables::Stepped;
-use super::call::Call;
-use super::call::Line;
-use super::call::Reply;
 
 // The reply to a placing.
 fn placing_reply<K: Kind>(result: Result<(), Refusal>) -> Reply<K>
@@ -51,7 +51,12 @@ pub fn perform<K: Kind, B: Bank>(memory: &mut Memory<K>, bank: &mut B, call: Cal
 
 // Performs all calls, in order, and gives the journal: one line for each call, with its reply. The journal's memory is
 // taken first, so that want of memory alters nothing.
-pub fn execute<K: Kind, B: Bank>(heap: Global, memory: &mut Memory<K>, bank: &mut B, calls: &[Call<K>]) -> Result<Vec<Line<K>>, AllocError>
+pub fn execute<K: Kind, B: Bank>(
+    heap: Global,
+    memory: &mut Memory<K>,
+    bank: &mut B,
+    calls: &[Call<K>],
+) -> Result<Vec<Line<K>>, AllocError>
     ensures { λ r. ⌜ Cases r
         (λ lines. Ran (K·Kind .empty) (B·Bank .number) (B·Bank .moved) (world (tables-of (now (memory .entry))) (now (bank .entry))) (now (calls .entry)) (vec-items lines) (world (tables-of (now (memory .exit))) (now (bank .exit))))
         (λ _. (tables-of (now (memory .exit)) ≡ tables-of (now (memory .entry))) × (now (bank .exit) ≡ now (bank .entry))) ⌝ }

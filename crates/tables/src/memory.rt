@@ -7,13 +7,13 @@ ghost use Rattle.std.specs.Of.Vec.{vec-items};
 ghost use Rattle.std.specs.Vec.{made};
 ghost use Rattle.tables.specs.Tables.{tables-of, numbers-ok};
 ghost use Rattle.tables.specs.Fresh.{unheld, fresh-tables, Freshly};
-use std::alloc::AllocError;
-use std::alloc::Global;
 use super::kind::Kind;
 use super::map::Slot;
 use super::process::Phase;
 use super::process::Process;
 use super::refusal::Refusal;
+use std::alloc::AllocError;
+use std::alloc::Global;
 
 pub const MOST_PROCESSES: usize = 64;
 
@@ -74,7 +74,11 @@ fn objects_with<K: Kind>(heap: Global, contents: &[K]) -> Result<Vec<Object<K>>,
 {
     let mut objects = Vec::new(heap);
     for content in contents {
-        objects.push(Object { content: content.copied(), stamp: 0, holder: None })?;
+        objects.push(Object {
+            content: content.copied(),
+            stamp: 0,
+            holder: None,
+        })?;
     }
     Ok(objects)
 }
@@ -85,13 +89,40 @@ impl<K: Kind> Memory<K> {
         requires { ⌜ count ≤ 64 ⌝ }
         ensures { λ r. ⌜ made r (λ m. tables-of m ≡ fresh-tables (K·Kind .empty) (now (contents .entry)) count) ⌝ }
     {
-        let idle = Process { live: false, clock: 0, reads: 0, writes: 0, steps: 0, phase: Phase::Idle };
+        let idle = Process {
+            live: false,
+            clock: 0,
+            reads: 0,
+            writes: 0,
+            steps: 0,
+            phase: Phase::Idle,
+        };
         let objects = objects_with(heap, contents)?;
         let processes = filled(heap, idle, count)?;
-        let reads = filled(heap, Slot { object: 0, value: 0u64 }, count * READ_PLACES)?;
-        let writes = filled(heap, Slot { object: 0, value: K::blank() }, count * WRITE_PLACES)?;
+        let reads = filled(
+            heap,
+            Slot {
+                object: 0,
+                value: 0u64,
+            },
+            count * READ_PLACES,
+        )?;
+        let writes = filled(
+            heap,
+            Slot {
+                object: 0,
+                value: K::blank(),
+            },
+            count * WRITE_PLACES,
+        )?;
         let hands = filled(heap, K::blank(), count)?;
-        Ok(Memory { objects, processes, reads, writes, hands })
+        Ok(Memory {
+            objects,
+            processes,
+            reads,
+            writes,
+            hands,
+        })
     }
 
     // A fresh memory with the given contents and that many processes.

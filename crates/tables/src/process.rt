@@ -21,19 +21,38 @@ pub enum Phase {
     // no request is in hand
     Idle,
     // reads the bank for process `next`; `least` is the least number so far
-    Beginning { next: usize, least: u64 },
+    Beginning {
+        next: usize,
+        least: u64,
+    },
     // fetches the object or its pending content
-    Reading { object: usize },
+    Reading {
+        object: usize,
+    },
     // replaces the object's pending content or becomes its holder
-    Writing { object: usize },
+    Writing {
+        object: usize,
+    },
     // looks at pair `next` of the read set, to move the clock to `to` for an access to `object`
-    Extending { object: usize, to: u64, next: usize, access: Access },
+    Extending {
+        object: usize,
+        to: u64,
+        next: usize,
+        access: Access,
+    },
     // looks at pair `next` of the read set; past the last pair, seals
-    Certifying { next: usize },
+    Certifying {
+        next: usize,
+    },
     // gives pair `next` of the write set to its object
-    Storing { next: usize },
+    Storing {
+        next: usize,
+    },
     // frees the object of pair `next` of the write set
-    Freeing { next: usize, ending: Ending },
+    Freeing {
+        next: usize,
+        ending: Ending,
+    },
 }
 
 #[derive(Clone, Copy)]

@@ -26,10 +26,10 @@ number-in bs = cond (eqb (length bs) 4) (at32 bs 0) 0
 abbrev pub call-of : Said → Call ℕ
 call-of s =
     cond (eqb (s .letter) 66) (Place (s .process) Begin)
-      (cond (eqb (s .letter) 82) (Place (s .process) (Read (s .object)))
-        (cond (eqb (s .letter) 87) (Place (s .process) (Write (s .object) (number-in (s .content))))
-          (cond (eqb (s .letter) 67) (Place (s .process) Commit)
-            (cond (eqb (s .letter) 68) (Place (s .process) Withdraw) (Step (s .process))))))
+    (cond (eqb (s .letter) 82) (Place (s .process) (Read (s .object)))
+    (cond (eqb (s .letter) 87) (Place (s .process) (Write (s .object) (number-in (s .content))))
+    (cond (eqb (s .letter) 67) (Place (s .process) Commit)
+    (cond (eqb (s .letter) 68) (Place (s .process) Withdraw) (Step (s .process))))))
 
 -- What asking a block for its calls answers: the calls of all its records, in order; or the block's refusal.
 abbrev pub Called : List ℕ → ℕ → Result (Vec (Call ℕ)) BlockError → Type 0

@@ -38,17 +38,47 @@ pub fn call_for(turn: Record<'_>) -> Call<u32>
     ensures { λ r. ⌜ r ≡ call-of (said (turn .entry)) ⌝ }
 {
     match turn {
-        Record::Begin { process, .. } => Call::Place { process: process as usize, request: Request::Begin },
-        Record::Read { process, object, .. } => {
-            Call::Place { process: process as usize, request: Request::Read { object: object as usize } }
+        Record::Begin { process, .. } => Call::Place {
+            process: process as usize,
+            request: Request::Begin,
+        },
+        Record::Read {
+            process,
+            object,
+            ..
+        } => {
+            Call::Place {
+                process: process as usize,
+                request: Request::Read {
+                    object: object as usize,
+                },
+            }
         }
-        Record::Write { process, object, content } => {
+        Record::Write {
+            process,
+            object,
+            content,
+        } => {
             let content = content_number(content);
-            Call::Place { process: process as usize, request: Request::Write { object: object as usize, content } }
+            Call::Place {
+                process: process as usize,
+                request: Request::Write {
+                    object: object as usize,
+                    content,
+                },
+            }
         }
-        Record::Commit { process, .. } => Call::Place { process: process as usize, request: Request::Commit },
-        Record::Withdraw { process, .. } => Call::Place { process: process as usize, request: Request::Withdraw },
-        Record::Step { process, .. } => Call::Step { process: process as usize },
+        Record::Commit { process, .. } => Call::Place {
+            process: process as usize,
+            request: Request::Commit,
+        },
+        Record::Withdraw { process, .. } => Call::Place {
+            process: process as usize,
+            request: Request::Withdraw,
+        },
+        Record::Step { process, .. } => Call::Step {
+            process: process as usize,
+        },
     }
 }
 

@@ -14,32 +14,63 @@ use tables::Conflict;
 use tables::Refusal;
 
 // An abort: its cause, and the object where the cause has one.
-fn conflict_line(heap: Global, number: usize, process: usize, conflict: Conflict, steps: usize) -> Result<String, AllocError>
+fn conflict_line(
+    heap: Global,
+    number: usize,
+    process: usize,
+    conflict: Conflict,
+    steps: usize,
+) -> Result<String, AllocError>
     ensures { λ r. ⌜ made r (λ s. string-bytes s ≡ conflict-text number process conflict steps) ⌝ }
 {
     match conflict {
-        Conflict::Held { object } => format!(heap, "{number} {process} aborted held {object} {steps}"),
-        Conflict::Changed { object } => format!(heap, "{number} {process} aborted changed {object} {steps}"),
+        Conflict::Held { object } => format!(
+            heap,
+            "{number} {process} aborted held {object} {steps}"
+        ),
+        Conflict::Changed { object } => format!(
+            heap,
+            "{number} {process} aborted changed {object} {steps}"
+        ),
         Conflict::Spent => format!(heap, "{number} {process} aborted spent {steps}"),
     }
 }
 
 // An answer: call number, process, the answer with its values, step count.
-fn answer_line(heap: Global, number: usize, process: usize, answer: Answer<u32>) -> Result<String, AllocError>
+fn answer_line(
+    heap: Global,
+    number: usize,
+    process: usize,
+    answer: Answer<u32>,
+) -> Result<String, AllocError>
     ensures { λ r. ⌜ made r (λ s. string-bytes s ≡ answer-text number process answer) ⌝ }
 {
     match answer {
         Answer::Begun { steps } => format!(heap, "{number} {process} begun {steps}"),
-        Answer::Read { content, steps } => format!(heap, "{number} {process} read {content} {steps}"),
+        Answer::Read { content, steps } => format!(
+            heap,
+            "{number} {process} read {content} {steps}"
+        ),
         Answer::Written { steps } => format!(heap, "{number} {process} written {steps}"),
         Answer::Committed { steps } => format!(heap, "{number} {process} committed {steps}"),
-        Answer::Aborted { conflict, steps } => conflict_line(heap, number, process, conflict, steps),
+        Answer::Aborted { conflict, steps } => conflict_line(
+            heap,
+            number,
+            process,
+            conflict,
+            steps,
+        ),
         Answer::Withdrawn { steps } => format!(heap, "{number} {process} withdrawn {steps}"),
     }
 }
 
 // A refusal: call number, process, and the number of the question.
-fn refusal_line(heap: Global, number: usize, process: usize, refusal: Refusal) -> Result<String, AllocError>
+fn refusal_line(
+    heap: Global,
+    number: usize,
+    process: usize,
+    refusal: Refusal,
+) -> Result<String, AllocError>
     ensures { λ r. ⌜ made r (λ s. string-bytes s ≡ refused-text number process refusal) ⌝ }
 {
     let question = refusal.number();
@@ -65,7 +96,12 @@ fn caller(call: Call<u32>) -> usize
 }
 
 // What is printed of a reply; nothing of a placing, and nothing of a step after which the request goes on.
-fn reply_line(heap: Global, number: usize, process: usize, reply: Reply<u32>) -> Result<Option<String>, AllocError>
+fn reply_line(
+    heap: Global,
+    number: usize,
+    process: usize,
+    reply: Reply<u32>,
+) -> Result<Option<String>, AllocError>
     ensures { λ r. ⌜ made r (λ s. bytes-of string-bytes s ≡ reply-text number process reply) ⌝ }
 {
     match reply {
@@ -79,7 +115,11 @@ fn reply_line(heap: Global, number: usize, process: usize, reply: Reply<u32>) ->
 }
 
 // What is printed of the journal's line of a call, by the call's number.
-pub fn line_text(heap: Global, number: usize, line: &Line<u32>) -> Result<Option<String>, AllocError>
+pub fn line_text(
+    heap: Global,
+    number: usize,
+    line: &Line<u32>,
+) -> Result<Option<String>, AllocError>
     ensures { λ r. ⌜ made r (λ s. bytes-of string-bytes s ≡ reply-text number (caller-of (now (line .entry) .call)) (now (line .entry) .reply)) ⌝ }
 {
     reply_line(heap, number, caller(line.call), line.reply)

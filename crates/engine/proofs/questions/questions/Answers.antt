@@ -36,9 +36,10 @@ returns g c =
     record {
       number = search needs;
       is = search needs;
-      sound =
-        (sound-facts (g .K·Kind .empty) (tables-of (c .args .memory .now)) (c .args .p)
-          (ready (tables-of (c .args .memory .now)) (c .args .p) (sym (c .if-not-sized .ensures tt)) (search needs) (search needs))
-          (sym (c .if-not-sets-fit .ensures tt)),
-         phase-facts (g .K·Kind .empty) (tables-of (c .args .memory .now)) (c .args .p) (c .process-r .result .phase) (search needs));
+      sound = (
+        sound-facts (g .K·Kind .empty) (tables-of (c .args .memory .now)) (c .args .p)
+            (ready (tables-of (c .args .memory .now)) (c .args .p) (sym (c .if-not-sized .ensures tt)) (search needs) (search needs))
+            (sym (c .if-not-sets-fit .ensures tt)),
+        phase-facts (g .K·Kind .empty) (tables-of (c .args .memory .now)) (c .args .p) (c .process-r .result .phase) (search needs),
+      );
     }

@@ -24,14 +24,15 @@ loop-call-again g c =
     let x = c .call-item .result in
     let lines = vec-items (c .loop-call .journal) in
     let leads : v ≡ after-call empty number moved w x =
-        same-world v (after-call empty number moved w x) (c .perform-reply .ensures .after) (c .perform-reply .ensures .bank) in
+    same-world v (after-call empty number moved w x) (c .perform-reply .ensures .after) (c .perform-reply .ensures .bank) in
     let written : vec-items (c .push-reserved .last .self) ≡ lines ++ line x _ ∷ [] =
-        c .push-reserved .ensures .items ∙ ap (λ (r : Reply (g .K .Denot)). lines ++ line x r ∷ []) (c .perform-reply .ensures .reply) in
-    (search needs,
-     search needs,
-     ap (λ l. l ++ journal empty number moved v (drop (i + 1) cs)) written
-       ∙ line-more empty number moved w0 w cs i lines x v (c .loop-call-test .taken) (c .call-item .is) leads (c .loop-call .inv .2),
-     calls-more empty number moved w0 w cs i lines x v (c .loop-call-test .taken) (c .call-item .is) leads (c .loop-call .inv .3))
+    c .push-reserved .ensures .items ∙ ap (λ (r : Reply (g .K .Denot)). lines ++ line x r ∷ []) (c .perform-reply .ensures .reply) in (
+      search needs,
+      search needs,
+      ap (λ l. l ++ journal empty number moved v (drop (i + 1) cs)) written
+          ∙ line-more empty number moved w0 w cs i lines x v (c .loop-call-test .taken) (c .call-item .is) leads (c .loop-call .inv .2),
+      calls-more empty number moved w0 w cs i lines x v (c .loop-call-test .taken) (c .call-item .is) leads (c .loop-call .inv .3),
+    )
 
 pub returns : need.returns
 returns g c =

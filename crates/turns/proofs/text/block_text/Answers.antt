@@ -11,6 +11,6 @@ use Rattle.turns.proofs.text.block_text.Needs as need
 pub returns : need.returns
 returns c =
     subst
-      (λ (k : ℕ). made (c .format .result) (λ s. string-bytes s ≡ codes "block " ++ (decimal (c .args .place) ++ (codes " " ++ decimal k))))
-      (c .number-question .ensures)
-      (c .format .ensures .made)
+    (λ (k : ℕ). made (c .format .result) (λ s. string-bytes s ≡ codes "block " ++ (decimal (c .args .place) ++ (codes " " ++ decimal k))))
+    (c .number-question .ensures)
+    (c .format .ensures .made)

@@ -12,6 +12,6 @@ use Rattle.turns.proofs.text.refusal_line.Needs as need
 pub returns : need.returns
 returns c =
     subst
-      (λ (k : ℕ). made (c .format .result) (λ s. string-bytes s ≡ after-caller (c .args .number) (c .args .process) (codes " refused " ++ decimal k)))
-      (c .number-question .ensures)
-      (c .format .ensures .made)
+    (λ (k : ℕ). made (c .format .result) (λ s. string-bytes s ≡ after-caller (c .args .number) (c .args .process) (codes " refused " ++ decimal k)))
+    (c .number-question .ensures)
+    (c .format .ensures .made)

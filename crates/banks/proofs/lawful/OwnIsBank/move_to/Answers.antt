@@ -20,5 +20,6 @@ returns-else-p-le63 c =
     let xs = c .args .self .now .numbers in
     let l = long xs (c .args .self .now .lawful) in
     same-own _ _ (elim (c .else-p-le63 .either) [
-      inl h ↦ sym (raised-beyond xs (c .args .p) (c .args .u) (omega arith))
-    | inr h ↦ sym (raised-outside xs (c .args .p) (c .args .u) (omega arith)) ])
+      | inl h ↦ sym (raised-beyond xs (c .args .p) (c .args .u) (omega arith))
+      | inr h ↦ sym (raised-outside xs (c .args .p) (c .args .u) (omega arith))
+    ])

@@ -9,7 +9,7 @@ use Rattle.banks.proofs.state.OwnBank.new.Needs as need
 pub returns : need.returns
 returns c =
     λ p.
-      elim (cases-lt p 64) [
-        inl h ↦ getD-replicate 64 p 0 0 h
+    elim (cases-lt p 64) [
+      | inl h ↦ getD-replicate 64 p 0 0 h
       | inr h ↦ getD-past (replicate 64 0) p 0 (simp length-replicate h)
-      ]
+    ]

@@ -9,5 +9,5 @@ use Rattle.tables.proofs.memory.Memory.opened.Needs as need
 pub returns : need.returns
 returns g c =
     same-tables _ _ (c .in-Continue-objects .ensures tt) (c .in-Continue-processes .ensures tt) (c .in-Continue-reads .ensures tt)
-      (c .in-Continue-writes .ensures tt ∙ ap (λ v. replicate (c .args .count * 16) (pair 0 v)) (c .blank .ensures))
-      (c .in-Continue-hands .ensures tt ∙ ap (replicate (c .args .count)) (c .blank-2 .ensures))
+    (c .in-Continue-writes .ensures tt ∙ ap (λ v. replicate (c .args .count * 16) (pair 0 v)) (c .blank .ensures))
+    (c .in-Continue-hands .ensures tt ∙ ap (replicate (c .args .count)) (c .blank-2 .ensures))
