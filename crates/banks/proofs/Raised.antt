@@ -1,13 +1,13 @@
 -- What raising one number does to a list of them.
-use mathlib.Core.Path.{_≡_, refl, sym, ap, _∙_}
-use mathlib.Core.Bool.{Bool, true, false, cond, _&&_}
-use mathlib.Core.Logic.{_⊎_, _≢_, inl, inr}
+use mathlib.Core.Path.{_≡_, ap}
+use mathlib.Core.Bool.{true, false}
+use mathlib.Core.Logic.{_⊎_, inl, inr}
 use mathlib.Core.List.{List}
 use Prim.Native.Nat.{ℕ, _^_, _≤_, _<_, max}
-use lib.Dec.{leb, ltb, eqb}
+use lib.Dec.{leb, eqb}
 use lib.ListN.{length, getD, set}
 use native.Mathlib.Omega.{arith}
-use Rattle.std.proofs.shelf.Tests.{cases-bool, cases-eq, cases-lt, leb-true, le-leb, lt-leb, eqb-true, and-parts}
+use Rattle.std.proofs.shelf.Tests.{cases-bool, cases-eq, cases-lt, le-leb, lt-leb, eqb-true, and-parts}
 use Rattle.std.proofs.shelf.Lists.{getD-set-same, getD-set-other, getD-past, set-past, set-getD}
 use Rattle.banks.specs.Numbers.{ranged, raised, small, small-at}
 

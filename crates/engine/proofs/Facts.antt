@@ -1,6 +1,6 @@
 -- What the tests of soundness tell of the record of a process.
 use mathlib.Core.Path.{_≡_, refl, ap, _∙_}
-use mathlib.Core.Bool.{Bool, true, false, _&&_, _||_, cond}
+use mathlib.Core.Bool.{Bool, true, false, _&&_, _||_}
 use mathlib.Core.Logic.{inl, inr}
 use mathlib.Core.List.{List, [], _∷_}
 use Prim.Native.Nat.{ℕ, zero, suc, _+_, _*_, _^_, _<_, _≤_}
@@ -10,7 +10,7 @@ use lib.ListN.{length, getD, drop, take}
 use Rattle.std.proofs.shelf.Lists.{getD-take, getD-drop, length-take, length-drop}
 use Rattle.std.proofs.shelf.Tests.{and-parts, ltb-true, cases-bool}
 use Rattle.std.proofs.shelf.Ways.{tells}
-use Rattle.std.specs.declared.option.Option.the-variants.{Some, None}
+use Rattle.std.specs.declared.option.Option.the-variants.{None}
 use Rattle.std.specs.Options.{isSome}
 use Rattle.tables.specs.declared.map.Slot.{Slot}
 use Rattle.tables.specs.declared.memory.Object.{Object}
@@ -19,8 +19,8 @@ use Rattle.tables.specs.declared.process.Access.the-variants as access
 use Rattle.tables.specs.declared.process.Phase.{Phase}
 use Rattle.tables.specs.declared.process.Phase.the-variants.{Idle, Beginning, Reading, Writing, Extending, Certifying, Storing, Freeing}
 use Rattle.tables.specs.Lookup.{pair, value-of, place-of}
-use Rattle.tables.specs.Tables.{Tables, process-at, read-at, write-at, read-set, write-set, sizes-ok, blank-object}
-use Rattle.engine.specs.Sound.{named-ok, object-ok, all-named, counts-ok, sets-ok, phase-ok, room, readable, stamps-ok, distinct, access-room, ending-ok}
+use Rattle.tables.specs.Tables.{Tables, process-at, read-set, write-set, sizes-ok, blank-object}
+use Rattle.engine.specs.Sound.{named-ok, object-ok, all-named, counts-ok, sets-ok, phase-ok, room, stamps-ok, distinct, access-room, ending-ok}
 use Rattle.engine.specs.Ready.{Ready, Sound, PhaseFacts, JoinsIn}
 
 -- a pair of a set names an object

@@ -1,5 +1,4 @@
 -- The steps that look at an object, by their phase and what the look finds.
-use mathlib.Core.Path.{_≡_}
 use Prim.Native.Nat.{ℕ, _<_}
 use lib.ListN.{length}
 use Rattle.std.specs.declared.option.Option.{Option}

@@ -5,7 +5,7 @@ use lib.Dec.{ltb, eqb}
 use Rattle.std.specs.declared.option.Option.{Option}
 use Rattle.std.specs.declared.option.Option.the-variants.{Some, None}
 use Rattle.std.specs.declared.result.Result.{Result}
-use Rattle.std.specs.declared.result.Result.the-variants.{Ok, Err}
+use Rattle.std.specs.declared.result.Result.the-variants.{Err}
 use Rattle.tables.specs.Tables.{Tables, process-at}
 use Rattle.tables.specs.declared.process.Phase.{Phase}
 use Rattle.tables.specs.declared.process.Phase.the-variants.{Idle, Beginning, Reading, Writing, Extending, Certifying, Storing, Freeing}

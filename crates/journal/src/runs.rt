@@ -2,7 +2,9 @@
 ghost use mathlib.Core.Path.{_≡_};
 ghost use Rattle.std.specs.Of.Vec.{vec-items};
 ghost use Rattle.std.specs.Results.{Cases};
+ghost use Rattle.std.specs.Vec.{made};
 ghost use Rattle.tables.specs.Tables.{tables-of};
+ghost use Rattle.journal.specs.Trust.{IsFresh, AllTrusted};
 ghost use Rattle.journal.specs.Runs.{world, placing-reply, step-reply, reply-to, after-call, Ran};
 use super::call::Call;
 use super::call::Line;
@@ -50,16 +52,17 @@ pub fn perform<K: Kind, B: Bank>(memory: &mut Memory<K>, bank: &mut B, call: Cal
 }
 
 // Performs all calls, in order, and gives the journal: one line for each call, with its reply. The journal's memory is
-// taken first, so that want of memory alters nothing.
+// taken first, so that want of memory alters nothing. On a fresh memory no call is refused for the state of the tables.
 pub fn execute<K: Kind, B: Bank>(
     heap: Global,
     memory: &mut Memory<K>,
     bank: &mut B,
     calls: &[Call<K>],
 ) -> Result<Vec<Line<K>>, AllocError>
-    ensures { λ r. ⌜ Cases r
+    ensures ran { λ r. ⌜ Cases r
         (λ lines. Ran (K·Kind .empty) (B·Bank .number) (B·Bank .moved) (world (tables-of (now (memory .entry))) (now (bank .entry))) (now (calls .entry)) (vec-items lines) (world (tables-of (now (memory .exit))) (now (bank .exit))))
         (λ _. (tables-of (now (memory .exit)) ≡ tables-of (now (memory .entry))) × (now (bank .exit) ≡ now (bank .entry))) ⌝ }
+    ensures trusted { λ r. ⌜ made r (λ lines. IsFresh (K·Kind .empty) (tables-of (now (memory .entry))) → AllTrusted (vec-items lines)) ⌝ }
 {
     let mut journal = Vec::with_capacity(heap, calls.len())?;
     for call in calls {

@@ -21,7 +21,7 @@ use Rattle.tables.specs.declared.reply.Stepped.{Stepped}
 use Rattle.engine.specs.Outcome.{Outcome, answering}
 use Rattle.engine.specs.Commit.{seal-stamp, stored-object}
 use Rattle.engine.specs.Step.{step-call}
-use Rattle.journal.specs.Runs.{World, world, line, journal}
+use Rattle.journal.specs.Runs.{world, journal}
 use Rattle.journal.specs.declared.call.Call.{Call}
 use Rattle.journal.specs.declared.call.Call.the-variants.{Place, Step}
 use Rattle.journal.specs.declared.call.Line.{Line}

@@ -1,5 +1,4 @@
-use mathlib.Core.Path.{sym, _∙_, ap, refl}
-use native.Mathlib.Omega.{arith}
+use mathlib.Core.Path.{_∙_, ap, refl}
 use borrow.Author.Needs.{needs}
 use lib.ListN.{set}
 use Rattle.std.specs.Of.Vec.{vec-items}

@@ -1,4 +1,3 @@
-use Prim.Native.Nat.{_+_, _≤_}
 use mathlib.Core.Path.{_≡_}
 use Rattle.std.specs.Of.Vec.{vec-len, vec-items}
 use Rattle.engine.specs.Ends.{wiped}

@@ -1,8 +1,6 @@
-use mathlib.Core.Path.{refl, sym, ap, _∙_}
+use mathlib.Core.Path.{refl}
 use mathlib.Core.Bool.{not}
-use Prim.Native.Nat.{_+_}
 use Rattle.std.specs.Options.{isSome}
-use Rattle.std.proofs.shelf.Lists.{take-rest}
 use Rattle.tables.specs.Lookup.{value-of}
 use Rattle.engine.specs.Sound.{distinct}
 use Rattle.engine.proofs.Slots.{later-some}

@@ -1,4 +1,4 @@
-use mathlib.Core.Path.{refl, sym, _∙_}
+use mathlib.Core.Path.{refl, sym}
 use Rattle.engine.specs.Sound.{all-named, named-ok}
 use Rattle.engine.proofs.Loops.{fails, passes, done}
 use Rattle.engine.proofs.sound.all_named.Needs as need

@@ -1,5 +1,5 @@
 -- One call more, and the end of the list.
-use mathlib.Core.Path.{_≡_, ap, _∙_}
+use mathlib.Core.Path.{_≡_, sym, ap, subst, _∙_}
 use mathlib.Core.List.{[], _∷_, _++_}
 use Prim.Native.Nat.{_+_}
 use lib.ListN.{drop}
@@ -8,6 +8,8 @@ use Rattle.std.specs.Of.Vec.{vec-items}
 use Rattle.tables.specs.Tables.{tables-of}
 use Rattle.journal.specs.declared.call.Reply.{Reply}
 use Rattle.journal.specs.Runs.{world, line, journal, after-call}
+use Rattle.journal.specs.Trust.{AllTrusted}
+use Rattle.journal.proofs.Trusting.{fresh-trusted}
 use Rattle.journal.proofs.Steps.{line-more, calls-more, lines-all, calls-all, same-world}
 use Rattle.journal.proofs.runs.execute.Needs as need
 
@@ -44,7 +46,14 @@ returns g c =
     let cs = c .args .calls .now in
     let i = c .loop-call .call-index in
     let lines = vec-items (c .loop-call .journal) in
+    let written : lines ≡ journal empty number moved w0 cs =
+    lines-all empty number moved w0 w cs i lines (c .loop-call-test .left) (c .loop-call .inv .2) in
     record {
-      written = lines-all empty number moved w0 w cs i lines (c .loop-call-test .left) (c .loop-call .inv .2);
-      left = calls-all empty number moved w0 w cs i lines (c .loop-call-test .left) (c .loop-call .inv .3);
+      ran =
+          record {
+            written = written;
+            left = calls-all empty number moved w0 w cs i lines (c .loop-call-test .left) (c .loop-call .inv .3);
+          };
+      trusted =
+          λ f. subst AllTrusted (sym written) (fresh-trusted empty number moved (g .B·Bank·met .ranged) w0 cs f);
     }

@@ -9,7 +9,6 @@ use Rattle.std.proofs.shelf.Parts.{pushed}
 use Rattle.blocks.specs.declared.reader.Block.{Block}
 use Rattle.journal.specs.declared.call.Call.{Call}
 use Rattle.blocks.specs.Reading.{said-at, records-of}
-use Rattle.blocks.specs.Records.{Said}
 use Rattle.blocks.proofs.Listed.{length-records, getD-records}
 use Rattle.turns.specs.Calls.{call-of}
 use Rattle.turns.proofs.calls.block_calls.Needs as need

@@ -3,7 +3,7 @@ use mathlib.Core.Path.{sym}
 use mathlib.Core.Logic.{inl, inr}
 use Rattle.banks.specs.Banks.{same-own}
 use Rattle.banks.specs.Numbers.{ranged-set}
-use Rattle.banks.proofs.Raised.{low, none, long, raised-up, raised-same, raised-outside, raised-beyond}
+use Rattle.banks.proofs.Raised.{long, raised-up, raised-same, raised-outside, raised-beyond}
 use Rattle.banks.proofs.lawful.OwnIsBank.move_to.Needs as need
 
 pub ghost-self : need.ghost-self

@@ -1,7 +1,6 @@
 -- Each number of a new own bank is 0.
 use mathlib.Core.Logic.{inl, inr}
 use lib.ListN.{replicate}
-use native.Mathlib.Omega.{arith}
 use Rattle.std.proofs.shelf.Tests.{cases-lt}
 use Rattle.std.proofs.shelf.Lists.{getD-replicate, getD-past, length-replicate}
 use Rattle.banks.proofs.state.OwnBank.new.Needs as need
