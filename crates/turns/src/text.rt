@@ -2,6 +2,8 @@
 ghost use mathlib.Core.Path.{_≡_};
 ghost use Rattle.std.specs.Vec.{made};
 ghost use Rattle.std.specs.Of.String.{string-bytes};
+ghost use Rattle.std.specs.declared.option.Option.the-variants.{None};
+ghost use Rattle.std.specs.declared.result.Result.the-variants.{Ok};
 ghost use Rattle.turns.specs.Text.{conflict-text, answer-text, refused-text, reply-text, bytes-of, caller-of, refused-block-text};
 use blocks::Refusal as BlockRefusal;
 use journal::Call;
@@ -102,7 +104,8 @@ fn reply_line(
     process: usize,
     reply: Reply<u32>,
 ) -> Result<Option<String>, AllocError>
-    ensures { λ r. ⌜ made r (λ s. bytes-of string-bytes s ≡ reply-text number process reply) ⌝ }
+    ensures text { λ r. ⌜ made r (λ s. bytes-of string-bytes s ≡ reply-text number process reply) ⌝ }
+    ensures silent { λ r. ⌜ (reply-text number process reply ≡ None → r ≡ Ok None) ⌝ }
 {
     match reply {
         Reply::Placed => Ok(None),
@@ -120,7 +123,8 @@ pub fn line_text(
     number: usize,
     line: &Line<u32>,
 ) -> Result<Option<String>, AllocError>
-    ensures { λ r. ⌜ made r (λ s. bytes-of string-bytes s ≡ reply-text number (caller-of (now (line .entry) .call)) (now (line .entry) .reply)) ⌝ }
+    ensures text { λ r. ⌜ made r (λ s. bytes-of string-bytes s ≡ reply-text number (caller-of (now (line .entry) .call)) (now (line .entry) .reply)) ⌝ }
+    ensures silent { λ r. ⌜ (reply-text number (caller-of (now (line .entry) .call)) (now (line .entry) .reply) ≡ None → r ≡ Ok None) ⌝ }
 {
     reply_line(heap, number, caller(line.call), line.reply)
 }
