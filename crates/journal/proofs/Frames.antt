@@ -32,6 +32,7 @@ pub record Frame {K : Type 0} (t u : Tables K) (p : ℕ) : Type 0 where
   pub others : (q : ℕ) → (q ≡ p → ⊥) → process-at u q ≡ process-at t q
   pub other-reads : (q n : ℕ) → (q ≡ p → ⊥) → n ≤ 32 → window (u .reads) (q * 32) n ≡ window (t .reads) (q * 32) n
   pub other-writes : (q n : ℕ) → (q ≡ p → ⊥) → n ≤ 16 → window (u .writes) (q * 16) n ≡ window (t .writes) (q * 16) n
+  pub other-hands : (q : ℕ) (d : K) → (q ≡ p → ⊥) → getD (u .hands) q d ≡ getD (t .hands) q d
 
 unit-more : (a b : ℕ) → (a + 1) * b ≡ a * b + b
 unit-more a b = add-mul a 1 b ∙ ap (λ (c : ℕ). a * b + c) (one-mul b)
@@ -54,6 +55,7 @@ module _ {K : Type 0} (t : Tables K) (p : ℕ) where
         others = λ q n. getD-set-other (t .processes) p q r idle-process n;
         other-reads = λ q n d l. refl;
         other-writes = λ q n d l. refl;
+        other-hands = λ q d n. refl;
       }
 
   pub frame-object : (x : ℕ) (o : Object K) → Frame t (with-object t x o) p
@@ -67,6 +69,7 @@ module _ {K : Type 0} (t : Tables K) (p : ℕ) where
         others = λ q n. refl;
         other-reads = λ q n d l. refl;
         other-writes = λ q n d l. refl;
+        other-hands = λ q d n. refl;
       }
 
   pub frame-hand : (v : K) → Frame t (with-hand t p v) p
@@ -80,6 +83,7 @@ module _ {K : Type 0} (t : Tables K) (p : ℕ) where
         others = λ q n. refl;
         other-reads = λ q n d l. refl;
         other-writes = λ q n d l. refl;
+        other-hands = λ q d n. getD-set-other (t .hands) p q v d n;
       }
 
   -- stretches of w places: place i of p lies outside that of q
@@ -101,6 +105,7 @@ module _ {K : Type 0} (t : Tables K) (p : ℕ) where
         others = λ q n. refl;
         other-reads = λ q n d l. window-set (t .reads) (q * 32) n (p * 32 + i) s (outside 32 q n i d l h);
         other-writes = λ q n d l. refl;
+        other-hands = λ q d n. refl;
       }
 
   pub frame-write : (i : ℕ) (s : Slot K) → i < 16 → Frame t (with-write t p i s) p
@@ -114,6 +119,7 @@ module _ {K : Type 0} (t : Tables K) (p : ℕ) where
         others = λ q n. refl;
         other-reads = λ q n d l. refl;
         other-writes = λ q n d l. window-set (t .writes) (q * 16) n (p * 16 + i) s (outside 16 q n i d l h);
+        other-hands = λ q d n. refl;
       }
 
   pub frame-ended : (e : K) → p < length (t .processes) → length (t .reads) ≡ length (t .processes) * 32 → length (t .writes) ≡ length (t .processes) * 16 → Frame t (ended e t p) p
@@ -129,6 +135,7 @@ module _ {K : Type 0} (t : Tables K) (p : ℕ) where
         others = λ q n. getD-set-other (t .processes) p q (closed (process-at t p)) idle-process n;
         other-reads = λ q n d l. window-wiped (t .reads) (q * 32) n (p * 32) 32 (pair 0 0) fr (elim (cases-lt p q) [ inl a ↦ inr (omega arith) | inr a ↦ inl (let b : q < p = strict d a in omega arith) ]);
         other-writes = λ q n d l. window-wiped (t .writes) (q * 16) n (p * 16) 16 (pair 0 e) fw (elim (cases-lt p q) [ inl a ↦ inr (omega arith) | inr a ↦ inl (let b : q < p = strict d a in omega arith) ]);
+        other-hands = λ q d n. getD-set-other (t .hands) p q e d n;
       }
 
 -- two changes by one process
@@ -143,6 +150,7 @@ frame-both t u v p f g =
       others = λ q d. g .others q d ∙ f .others q d;
       other-reads = λ q n d l. g .other-reads q n d l ∙ f .other-reads q n d l;
       other-writes = λ q n d l. g .other-writes q n d l ∙ f .other-writes q n d l;
+      other-hands = λ q d n. g .other-hands q d n ∙ f .other-hands q d n;
     }
 
 -- facts over equal parts

@@ -1,0 +1,1 @@
+-- No definitions: the crate proves facts about those of the engine, the journal and the protocol.
