@@ -1,5 +1,7 @@
 // The bench: carries out the turn blocks on standard input, on a memory of 2 processes and 4 objects with the own
 // bank and contents 0, and prints a line for each answer and each refusal. A refused block ends the run.
+#![tactic(auto)]
+
 ghost use Rattle.std.specs.Prelude.{◌≤◌, length, IfOk};
 
 use anyhow::anyhow;

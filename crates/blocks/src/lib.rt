@@ -19,6 +19,8 @@
 //   15   is the letter of each record known?
 //
 // The reader asks all five. The writer asks 11, 14 and 15, and leaves the bytes as they were where it refuses.
+#![tactic(auto)]
+
 mod check;
 mod layout;
 mod reader;

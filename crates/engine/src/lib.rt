@@ -1,6 +1,8 @@
 // The engine of the step memory: requests are placed and then carried out one step at a time.
 // `place` and `step` are its entry points; they ask their questions first and work on tables in any state.
 // All other functions are inner ones, whose callers have shown that the record is sound.
+#![tactic(auto)]
+
 mod begin;
 mod commit;
 mod ends;

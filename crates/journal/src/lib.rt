@@ -1,4 +1,6 @@
 // Lists of calls on a memory and a bank, and the journal of what was replied.
+#![tactic(auto)]
+
 mod call;
 mod runs;
 

@@ -1,6 +1,8 @@
 // The tables of the step memory: record kinds, the map from objects to values, objects and processes, requests,
 // replies, and the memory that owns them all. Whoever holds a memory may change it in any way; the engine asks
 // before each call whether its tables are sound.
+#![tactic(auto)]
+
 mod kind;
 mod map;
 mod memory;

@@ -1,4 +1,6 @@
 // From turn blocks to calls, and from journal lines to the lines that the bench prints.
+#![tactic(auto)]
+
 mod calls;
 mod carry;
 mod text;

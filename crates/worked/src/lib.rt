@@ -1,4 +1,6 @@
 // Worked values of the rules, as one proved fact about the definitions that the contracts use.
+#![tactic(auto)]
+
 ghost use Rattle.worked.specs.Example.{Example};
 ghost use Rattle.worked.specs.Worked.{Worked};
 ghost use Rattle.std.specs.Prelude.{◌≡◌};
