@@ -24,8 +24,8 @@ loop-call-preserved g c =
     let lines = vec_items c.loop-call.journal in
     let leads : v ≡ after_call empty number moved w x =
     same_world v (after_call empty number moved w x) c.perform-reply.ensures.after c.perform-reply.ensures.bank in
-    let written : vec_items c.push-reserved.new.self ≡ lines ++ line x _ ∷ [] =
-    c.push-reserved.ensures.items ∙ ap (λ (r : Reply g.row.K.Denot). lines ++ line x r ∷ []) c.perform-reply.ensures.reply in (
+    let written : vec_items c.push_reserved.new.self ≡ lines ++ line x _ ∷ [] =
+    c.push_reserved.ensures.items ∙ ap (λ (r : Reply g.row.K.Denot). lines ++ line x r ∷ []) c.perform-reply.ensures.reply in (
       search rules,
       search rules,
       ap (λ l. l ++ journal empty number moved v (drop (i + 1) cs)) written

@@ -6,5 +6,5 @@ use Rattle.tables.proofs.memory.filled.Goals as goal
 
 pub loop-i-preserved : goal.loop-i-preserved
 loop-i-preserved g c =
-    pushed (c.args.element ∷ []) c.loop-i.invariant c.in-ok-push.was c.push.ensures.items
-    ∙ replicate_more c.loop-i.-i c.args.element
+    pushed (c.args.element ∷ []) c.loop-i.invariant c.in_ok-push.was c.push.ensures.items
+    ∙ replicate_more c.loop-i._i c.args.element

@@ -8,7 +8,7 @@ use Rattle.tables.proofs.memory.objects_with.Goals as goal
 pub loop-content-preserved : goal.loop-content-preserved
 loop-content-preserved g c =
     let xs = c.args.contents.now in let i = c.loop-content.content-index in let x = c.content-item.result in
-    pushed (unheld c.copied.result ∷ []) c.loop-content.invariant c.in-ok-push.was c.push.ensures.items
+    pushed (unheld c.copied.result ∷ []) c.loop-content.invariant c.in_ok-push.was c.push.ensures.items
     ∙ ap (λ y. map unheld (take i xs) ++ unheld y ∷ []) (c.copied.ensures ∙ c.content-item.is)
     ∙ sym (map_more unheld xs i x c.loop-content-test.true)
 

@@ -20,7 +20,7 @@ more b i x h e =
 
 pub loop-i-preserved : goal.loop-i-preserved
 loop-i-preserved c =
-    pushed (c.call-at.result ∷ []) c.loop-i.invariant c.in-ok-push.was c.push.ensures.items
+    pushed (c.call-at.result ∷ []) c.loop-i.invariant c.in_ok-push.was c.push.ensures.items
     ∙ more c.args.block c.loop-i.i c.call-at.result (omega arith) c.call-at.ensures
 
 pub returns : goal.returns

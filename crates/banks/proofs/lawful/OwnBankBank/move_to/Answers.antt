@@ -4,8 +4,8 @@ use Rattle.banks.specs.Numbers.{ranged_set}
 use Rattle.banks.specs.Raised.{long, raised_up, raised_same, raised_outside, raised_beyond}
 use Rattle.banks.proofs.lawful.OwnBankBank.move_to.Goals as goal
 
-pub invariant-of-self : goal.invariant-of-self
-invariant-of-self c = (ranged_set c.args.self.now.numbers c.args.p c.args.u c.args.self.now.lawful (omega arith), tt)
+pub invariant_of-self : goal.invariant_of-self
+invariant_of-self c = record { lawful = ranged_set c.args.self.now.numbers c.args.p c.args.u c.args.self.now.lawful (omega arith) }
 
 pub returns-then-u-old : goal.returns-then-u-old
 returns-then-u-old c = same_own _ _ (raised_up c.args.self.now.numbers c.args.p c.args.u (omega arith) (omega arith))
