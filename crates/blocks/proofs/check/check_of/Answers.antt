@@ -19,7 +19,7 @@ pub loop-byte-preserved : goal.loop-byte-preserved
 loop-byte-preserved c =
     let w = c.loop-byte.weight in
     let i = c.loop-byte.byte-index in
-    let part = c.checked-part-part.result.now in
+    let part = c.checked_part-part.result.now in
     let next : weighted w (drop i part) ≡ w * get_or part i 0 + weighted (w + 1) (drop (i + 1) part) =
     at_drop_more (weighted w) part i 0 c.loop-byte-test.true in
     let read : w * c.from.result ≡ w * get_or part i 0 = ap (λ n. w * n) c.from.ensures in
@@ -28,8 +28,8 @@ loop-byte-preserved c =
 pub returns : goal.returns
 unfolding check_of
 returns c =
-    let part = c.checked-part-part.result.now in
+    let part = c.checked_part-part.result.now in
     let rest : weighted c.loop-byte.weight (drop c.loop-byte.byte-index part) ≡ 0 =
     at_drop_all (weighted c.loop-byte.weight) part c.loop-byte.byte-index c.loop-byte-test.false in
     let whole : c.loop-byte.sum ≡ weighted 1 part = omega (arith, rest) in
-    ap (λ n. n % 65521) (whole ∙ ap (weighted 1) c.checked-part-part.ensures.part)
+    ap (λ n. n % 65521) (whole ∙ ap (weighted 1) c.checked_part-part.ensures.part)

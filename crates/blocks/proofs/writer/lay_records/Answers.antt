@@ -11,10 +11,10 @@ loop-entry-preserved c =
     let at = c.loop-entry.at in
     let i = c.loop-entry.entry-index in
     let all = c.args.entries.now in
-    let wrote = c.lay-record.ensures in
+    let wrote = c.lay_record.ensures in
     let more = take_more all i no_entry c.loop-entry-test.true in
     let one = flat_map_more eight_of [] (take i all) (get_or all i no_entry) in
-    (omega arith, take-put_mid at (at + 8 - at) c.loop-entry.out c.lay-record.new.out (at + 8) (search rules) (search rules) ∙ cc)
+    (omega arith, take-put_mid at (at + 8 - at) c.loop-entry.out c.lay_record.new.out (at + 8) (search rules) (search rules) ∙ cc)
 
 pub returns : goal.returns
 returns c =

@@ -13,21 +13,21 @@ pub returns-then-p-len : goal.returns-then-p-len
 unfolding refused
 returns-then-p-len g c = search rules
 
-pub returns-then-not-counts-fit : goal.returns-then-not-counts-fit
+pub returns-then-not-counts_fit : goal.returns-then-not-counts_fit
 unfolding refused
-returns-then-not-counts-fit g c = search rules
+returns-then-not-counts_fit g c = search rules
 
-pub returns-then-not-sets-fit : goal.returns-then-not-sets-fit
+pub returns-then-not-sets_fit : goal.returns-then-not-sets_fit
 unfolding refused
-returns-then-not-sets-fit g c = search rules
+returns-then-not-sets_fit g c = search rules
 
-pub returns-then-not-phase-fits : goal.returns-then-not-phase-fits
+pub returns-then-not-phase_fits : goal.returns-then-not-phase_fits
 unfolding refused
-returns-then-not-phase-fits g c = search rules
+returns-then-not-phase_fits g c = search rules
 
-pub returns-then-not-steps-fit : goal.returns-then-not-steps-fit
+pub returns-then-not-steps_fit : goal.returns-then-not-steps_fit
 unfolding refused
-returns-then-not-steps-fit g c = search rules
+returns-then-not-steps_fit g c = search rules
 
 pub returns : goal.returns
 unfolding refused
@@ -38,7 +38,7 @@ returns g c =
       sound = (
         sound_facts g.K.Kind.empty (tables_of c.args.memory.now) c.args.p
             (ready (tables_of c.args.memory.now) c.args.p (sym c.if-not-sized.ensures) (search rules) (search rules))
-            (sym c.if-not-sets-fit.ensures),
+            (sym c.if-not-sets_fit.ensures),
         phase_facts g.K.Kind.empty (tables_of c.args.memory.now) c.args.p c.process-r.result.phase (search rules),
       );
     }
