@@ -9,11 +9,11 @@ use Rattle.blocks.proofs.check.check_of.Goals as goal
 product : (c : goal.After-from) → c.loop-byte.weight * c.from.result ≤ 510 * 255
 product c = mul-le c.loop-byte.weight c.from.result 510 255 (omega arith) (omega arith)
 
-pub overflow-mul-sum : goal.overflow-mul-sum
-overflow-mul-sum c = omega (arith, product c)
+pub overflow_mul-sum : goal.overflow_mul-sum
+overflow_mul-sum c = omega (arith, product c)
 
-pub overflow-add-sum : goal.overflow-add-sum
-overflow-add-sum c = omega (arith, product c)
+pub overflow_add-sum : goal.overflow_add-sum
+overflow_add-sum c = omega (arith, product c)
 
 pub loop-byte-preserved : goal.loop-byte-preserved
 loop-byte-preserved c =

@@ -6,8 +6,8 @@ use Rattle.blocks.specs.Writing.{entry_says}
 use Rattle.blocks.proofs.Listed.{write_more}
 use Rattle.blocks.proofs.writer.letters_known.Goals as goal
 
-pub returns-then-not-is-letter : goal.returns-then-not-is-letter
-returns-then-not-is-letter c =
+pub returns-then-not-is_letter : goal.returns-then-not-is_letter
+returns-then-not-is_letter c =
     let more = write_more c.args.entries.now c.loop-entry.entry-index (omega arith) in
     grind arith
 
