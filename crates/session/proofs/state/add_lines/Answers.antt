@@ -16,7 +16,7 @@ loop-i-preserved c =
     let t = string_bytes c.loop-i.text in
     let all = string_bytes c.args.text.now ++ printed n ls in
     let d = line (Place 0 Begin) Placed in
-    printed_more n i ls t all c.loop-i.invariant d (string_bytes c.add-printed.new.text) c.loop-i-test.true (c.in_ok-add_printed.ensures (refl {a = true}))
+    printed_more n i ls t all c.loop-i.invariant d (string_bytes c.add_printed.new.text) c.loop-i-test.true (c.in_ok-add_printed.ensures (refl {a = true}))
 
 pub returns : goal.returns
 returns c = λ ok.

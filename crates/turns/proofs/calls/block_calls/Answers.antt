@@ -20,8 +20,8 @@ more b i x h e =
 
 pub loop-i-preserved : goal.loop-i-preserved
 loop-i-preserved c =
-    pushed (c.call-at.result ∷ []) c.loop-i.invariant c.in_ok-push.was c.push.ensures.items
-    ∙ more c.args.block c.loop-i.i c.call-at.result (omega arith) c.call-at.ensures
+    pushed (c.call_at.result ∷ []) c.loop-i.invariant c.in_ok-push.was c.push.ensures.items
+    ∙ more c.args.block c.loop-i.i c.call_at.result (omega arith) c.call_at.ensures
 
 pub returns : goal.returns
 returns c =
