@@ -13,7 +13,7 @@ fn held_objects(rt: HostRuntime) -> Result<(), Fail> {
         R 1 1; S 1; S 1; S 1;                                       // 18 to 21: the conflict, and two objects freed
         B 1; S 1; S 1; W 1 1 9; S 1;                                // 22 to 26: a write finds the holder too
         W 0 2 8; S 0; C 0; S 0; S 0; S 0;                           // 27 to 32: object 2 is free; sealing, two stores
-        B 1; S 1; S 1; R 1 2; S 1; R 1 1; S 1; R 1 3; S 1;          // 33 to 41: no content of the given_up writes
+        B 1; S 1; S 1; R 1 2; S 1; R 1 1; S 1; R 1 3; S 1;          // 33 to 41: no content of the given-up writes
         C 1; S 1; S 1; S 1;                                         // 42 to 45
     ];
     let expected = "3 0 begun 2\n\
