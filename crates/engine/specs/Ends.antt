@@ -1,5 +1,5 @@
 -- The end of a transaction: places are zeroed and blanked, and one that is given up first frees what it holds.
-use Rattle.std.specs.Prelude.{ℕ, ◌+◌, ◌*◌, cond, List, ◌++◌, take, drop, set, replicate, None, ◌==◌, slice_set}
+use Rattle.std.specs.Prelude.{ℕ, ◌+◌, ◌*◌, cond, List, ◌++◌, take, drop, replicate, None, ◌==◌, slice_set}
 use Rattle.tables.specs.Lookup.{pair}
 use Rattle.tables.specs.Tables.{Tables, process_at, object_at, write_at, with_process, with_object}
 use Rattle.tables.specs.declared.memory.Object.{Object}

@@ -12,7 +12,7 @@ use Rattle.law.proofs.Course.{Course, course_step, course_place, course_fresh, l
 use Rattle.journal.specs.declared.call.Call.{Call}
 use Rattle.journal.specs.declared.call.Call.TheVariants.{Place, Step}
 use Rattle.journal.specs.declared.call.Line.{Line}
-use Rattle.journal.specs.Runs.{World, world, reply_to, placing_reply, step_reply, after_call, journal, after_calls, Ran}
+use Rattle.journal.specs.Runs.{World, world, reply_to, placing_reply, step_reply, after_call, journal, after_calls}
 use Rattle.journal.specs.Trust.{AllTrusted, IsFresh}
 use Rattle.journal.specs.Traces.{noted, trace_on, contents_of, Reached}
 use Rattle.journal.specs.Traces.Reached.{fresh, later}

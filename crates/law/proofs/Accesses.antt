@@ -1,5 +1,5 @@
 -- The reads and holds on record, and the logs of the protocol.
-use Rattle.std.proofs.Common.{◌≡◌, ℕ, suc, ◌<◌, ◌≤◌, Bool, true, cond, eqb, ◌⊎◌, List, [], ◌∷◌, sym, refl, ap, ◌∙◌, subst, inl, inr, arith}
+use Rattle.std.proofs.Common.{◌≡◌, ℕ, suc, ◌<◌, ◌≤◌, Bool, cond, eqb, ◌⊎◌, List, [], ◌∷◌, sym, refl, ap, ◌∙◌, subst, inl, inr, arith}
 use Rattle.std.proofs.lemmas.Bool.{cases_eq}
 use Rattle.protocol.specs.Table.{put}
 use Rattle.protocol.specs.History.{Access, Mark, version}
@@ -7,7 +7,7 @@ use Rattle.protocol.specs.History as history
 use Rattle.protocol.specs.History.Access.{rd, ov}
 use Rattle.protocol.specs.History.Mark.{some}
 use Rattle.protocol.proofs.Updates.{put_same, put_other, put_when}
-use Rattle.law.specs.Ledger.{Maker, Found, Reading, Hold}
+use Rattle.law.specs.Ledger.{Maker, Reading, Hold}
 use Rattle.law.specs.Ledger.Found.{pending, version as of_version}
 use Rattle.law.specs.Law.{In}
 use Rattle.law.proofs.Traces.{when}

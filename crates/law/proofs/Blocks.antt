@@ -1,9 +1,9 @@
 -- Each block of events that a step shows keeps what is on record in agreement with the protocol.
-use Rattle.std.proofs.Common.{◌≡◌, ℕ, zero, suc, ◌+◌, ◌<◌, ◌≤◌, Bool, true, false, cond, eqb, ◌⊎◌, List, [], ◌∷◌, ◌++◌, length, Some, None, Option, sym, refl, ap, ◌∙◌, subst, inl, inr, arith}
+use Rattle.std.proofs.Common.{◌≡◌, ℕ, zero, suc, ◌+◌, ◌<◌, ◌≤◌, Bool, true, cond, eqb, List, [], ◌∷◌, ◌++◌, length, Some, None, Option, sym, refl, ap, ◌∙◌, subst, inl, inr, arith}
 use Rattle.std.proofs.lemmas.Bool.{eq-eqb, cond-true}
 use Rattle.tables.specs.declared.reply.Conflict.{Conflict}
 use Rattle.tables.specs.declared.reply.Request.{Request}
-use Rattle.tables.specs.declared.reply.Request.TheVariants.{Begin, Read, Write, Commit, Withdraw}
+use Rattle.tables.specs.declared.reply.Request.TheVariants.{Begin, Read, Write}
 use Rattle.tables.specs.declared.reply.Stepped.{Stepped}
 use Rattle.tables.specs.declared.reply.Answer.TheVariants as answer_is
 use Rattle.tables.specs.declared.reply.Effect.TheVariants.{Nothing, Took}
@@ -12,13 +12,13 @@ use Rattle.protocol.specs.Table.{put}
 use Rattle.protocol.specs.Protocol.{Phase, Hand, Event, May, Lawful, LawfulFrom, state}
 use Rattle.protocol.specs.Protocol.Hand.{empty, full}
 use Rattle.protocol.specs.Protocol.Phase.{out, starting, running, certifying, aborting, sealing}
-use Rattle.protocol.specs.Protocol.Event.{ready, look, check, extend, answer, own, write, certify, pass, seal, finish, store, fail, free, commit, close}
+use Rattle.protocol.specs.Protocol.Event.{look, check, extend, pass, fail, free}
 use Rattle.protocol.specs.History.{Access, history, writes}
 use Rattle.protocol.specs.Alone.{Operation}
 use Rattle.protocol.specs.Alone.Operation.{got, set}
 use Rattle.protocol.specs.Commits.{commits_of}
-use Rattle.protocol.proofs.Updates.{put_same, put_other}
-use Rattle.protocol.proofs.Invariant.{Live, differ, unfull}
+use Rattle.protocol.proofs.Updates.{put_same}
+use Rattle.protocol.proofs.Invariant.{unfull}
 use Rattle.protocol.proofs.Laws.{all}
 use Rattle.refinement.proofs.Deciding.{cause_of}
 use Rattle.refinement.proofs.Acts.{Block}
@@ -53,12 +53,12 @@ use Rattle.refinement.proofs.Acts.Block.{
 }
 use Rattle.law.specs.Trace.{Trace, entry}
 use Rattle.law.specs.Trace.Act.{made}
-use Rattle.law.specs.Ledger.{Found, Desk, Hold, first, is, among, whose, begun_at, makers, latest, taken, holds, requests, desk, desk_on, sight, finds, of_request}
-use Rattle.law.specs.Ledger.Found.{version, pending}
+use Rattle.law.specs.Ledger.{Found, Desk, Hold, first, is, whose, begun_at, makers, latest, taken, holds, requests, desk, desk_on, sight}
+use Rattle.law.specs.Ledger.Found.{version}
 use Rattle.law.specs.Ledger.Desk.{free, asked}
 use Rattle.law.specs.Law.{In, Known}
 use Rattle.law.proofs.Times.{noted_has}
-use Rattle.law.proofs.Traces.{when, none_some, true_false, desk_new, hold_taken, among_in}
+use Rattle.law.proofs.Traces.{when, true_false, desk_new, hold_taken, among_in}
 use Rattle.law.proofs.Versions.{name}
 use Rattle.law.proofs.Requests.{AsksAs, todo, started}
 use Rattle.law.proofs.Contents.{ContentOf}

@@ -1,11 +1,11 @@
 -- The contents of versions: what a read got is what the maker of the version left.
-use Rattle.std.proofs.Common.{◌≡◌, ℕ, zero, suc, ◌<◌, ◌≤◌, Bool, cond, eqb, ◌⊎◌, List, ◌∷◌, sym, refl, ap, ◌∙◌, subst, inl, inr, arith}
+use Rattle.std.proofs.Common.{◌≡◌, ℕ, zero, suc, ◌<◌, ◌≤◌, Bool, cond, eqb, List, ◌∷◌, sym, ap, ◌∙◌, subst, inl, inr, arith}
 use Rattle.std.proofs.lemmas.Bool.{cases_eq}
 use Rattle.protocol.specs.Table.{put}
 use Rattle.protocol.specs.Alone.{Operation, after}
-use Rattle.protocol.proofs.Updates.{put_same, put_other, put_when}
-use Rattle.law.specs.Ledger.{Maker, Found, Reading}
-use Rattle.law.specs.Ledger.Found.{version, pending}
+use Rattle.protocol.proofs.Updates.{put_same, put_other}
+use Rattle.law.specs.Ledger.{Maker, Reading}
+use Rattle.law.specs.Ledger.Found.{version}
 use Rattle.law.specs.Law.{In}
 use Rattle.law.proofs.Traces.{when}
 use Rattle.law.proofs.Versions.{name, name_old}

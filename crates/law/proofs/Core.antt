@@ -1,18 +1,16 @@
 -- What is on record of a run agrees with what the protocol has of it, and each event that a step shows keeps it so.
-use Rattle.std.proofs.Common.{◌≡◌, ℕ, suc, ◌+◌, ◌<◌, ◌≤◌, Bool, true, false, cond, not, T, eqb, ◌⊎◌, List, [], ◌∷◌, length, Some, None, Option, sym, refl, ap, ◌∙◌, subst, inl, inr, arith}
+use Rattle.std.proofs.Common.{◌≡◌, ℕ, suc, ◌<◌, ◌≤◌, Bool, true, false, cond, not, T, eqb, ◌⊎◌, List, ◌∷◌, length, Some, None, Option, sym, refl, ap, ◌∙◌, subst, inl, inr, arith}
 use Rattle.std.proofs.lemmas.Bool.{cases_eq, cases_Bool, cond-true, cond-false}
 use Rattle.tables.specs.declared.reply.Answer.TheVariants as answer_is
-use Rattle.tables.specs.declared.reply.Conflict.{Conflict}
-use Rattle.tables.specs.declared.reply.Effect.TheVariants.{Nothing, Took, Sealed, Stored, Freed}
+use Rattle.tables.specs.declared.reply.Effect.TheVariants.{Nothing, Took, Sealed, Stored}
 use Rattle.tables.specs.declared.reply.Request.{Request}
-use Rattle.tables.specs.declared.reply.Request.TheVariants.{Begin, Read, Write, Commit, Withdraw}
+use Rattle.tables.specs.declared.reply.Request.TheVariants.{Read, Commit}
 use Rattle.tables.specs.declared.reply.Stepped.{Stepped}
 use Rattle.engine.specs.Outcome.{going, answering}
 use Rattle.protocol.specs.Table.{put}
-use Rattle.protocol.specs.Protocol.{State, Phase, Held, Event, Cause, May, Lawful, state}
+use Rattle.protocol.specs.Protocol.{Phase, Held, Event, Cause, Lawful, state}
 use Rattle.protocol.specs.Protocol.Held.{nobody, by}
-use Rattle.protocol.specs.Protocol.Hand.{full}
-use Rattle.protocol.specs.Protocol.Phase.{out, starting, running, certifying, aborting, sealing}
+use Rattle.protocol.specs.Protocol.Phase.{out, running, certifying, aborting, sealing}
 use Rattle.protocol.specs.Protocol.Event.{ready, answer, own, write, certify, seal, finish, store, fail, free, commit, close}
 use Rattle.protocol.specs.History.{History, Access, Mark, history, writes}
 use Rattle.protocol.specs.History.Access.{rd, ov}
@@ -23,14 +21,14 @@ use Rattle.protocol.specs.Commits.{commits_of}
 use Rattle.protocol.proofs.Updates.{put_same, put_other, put_when}
 use Rattle.protocol.proofs.Invariant.{Live, tag, differ, unheld, one_holder}
 use Rattle.protocol.proofs.Laws.{all}
-use Rattle.law.specs.Trace.{Entry, Trace, entry}
+use Rattle.law.specs.Trace.{Trace, entry}
 use Rattle.law.specs.Trace.Act.{made}
-use Rattle.law.specs.Ledger.{Maker, Found, Reading, Hold, Desk, first, is, among, push, whose, belongs, ended_at, placed_at, sealed_at, begun_at, stored_at, makers, taken, readings, holds, requests, desk, reading, sight, wrote, latest, hold}
+use Rattle.law.specs.Ledger.{Maker, Found, Reading, Hold, Desk, first, is, among, push, whose, ended_at, placed_at, sealed_at, begun_at, stored_at, makers, taken, readings, holds, requests, desk, reading, sight, wrote, latest}
 use Rattle.law.specs.Ledger.Found.{version, pending}
 use Rattle.law.specs.Ledger.Desk.{asked}
 use Rattle.protocol.specs.History as events
-use Rattle.law.specs.Law.{In, Known}
-use Rattle.law.proofs.Traces.{none_some, some_same, true_false, known_or, first_before, hold_before, reading_before, hold_taken, taken_held, among_in}
+use Rattle.law.specs.Law.{Known}
+use Rattle.law.proofs.Traces.{true_false, known_or, first_before, hold_before, reading_before, hold_taken, taken_held, among_in}
 use Rattle.law.proofs.Times.{Ends, ends_end, Seals, seals_end, seals_make, seals_at, Bases, bases_at, bases_begin, bases_make, noted, noted_same, noted_keeps, noted_known}
 use Rattle.law.proofs.Versions.{name, chain_name, Versions, versions_log, versions_rewrite, versions_take, versions_store, versions_end, versions_make}
 use Rattle.law.proofs.Accesses.{Logs, logs_read, logs_own, logs_take, logs_rewrite, logs_make}

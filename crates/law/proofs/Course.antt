@@ -1,5 +1,5 @@
 -- The tables of a memory, its bank and the trace of its run stand together; every call keeps them so.
-use Rattle.std.proofs.Common.{◌≡◌, ℕ, suc, ◌+◌, ◌-◌, ◌*◌, ◌^◌, ◌<◌, ◌≤◌, Bool, true, false, cond, not, eqb, ◌⊎◌, List, [], ◌∷◌, ◌++◌, length, get_or, drop, Some, None, Ok, Err, Option, Result, sym, refl, ap, ◌∙◌, subst, inl, inr, arith}
+use Rattle.std.proofs.Common.{◌≡◌, ℕ, suc, ◌+◌, ◌-◌, ◌*◌, ◌^◌, ◌<◌, ◌≤◌, Bool, true, false, cond, not, eqb, ◌⊎◌, List, [], ◌∷◌, ◌++◌, length, get_or, drop, Some, None, Ok, Option, sym, refl, ap, ◌∙◌, subst, inl, inr, arith}
 use Rattle.std.proofs.lemmas.List.{append_assoc, get_or-map, get_or_past, get_or-replicate, length-map, length-replicate}
 use Rattle.std.proofs.lemmas.Bool.{cases_eq, cases_Bool, cases_lt, eq-eqb, ne_eqb, eqb-false, cond-true, cond-false}
 use Rattle.tables.specs.Fresh.{unheld, fresh_tables}
@@ -22,16 +22,15 @@ use Rattle.engine.specs.Place.{due, placed as placed_process, place_call}
 use Rattle.engine.specs.Sound.{refused}
 use Rattle.engine.specs.Step.{phase_step, step_unless, step_call, step_bank}
 use Rattle.protocol.specs.Table.{put}
-use Rattle.protocol.specs.Protocol.{State, Phase, Event, Lawful, LawfulFrom, state, states, fresh}
+use Rattle.protocol.specs.Protocol.{State, Event, Lawful, LawfulFrom, state, fresh}
 use Rattle.protocol.specs.Protocol.Held.{nobody, by}
 use Rattle.protocol.specs.Protocol.Phase.{out, starting, running, certifying, aborting, sealing}
 use Rattle.protocol.specs.Protocol.Event.{begin, certify, fail}
 use Rattle.protocol.specs.Protocol.Cause.{withdrawn}
 use Rattle.protocol.specs.History.{history}
-use Rattle.protocol.specs.Commits.{commits_of}
 use Rattle.protocol.proofs.Blocks.{joined, lawful_on}
-use Rattle.protocol.proofs.Freshness.{FreshOf, fresh_turn, fresh_next}
-use Rattle.protocol.proofs.Invariant.{Live, differ, back, unsaw, unfull}
+use Rattle.protocol.proofs.Freshness.{fresh_turn, fresh_next}
+use Rattle.protocol.proofs.Invariant.{Live, differ, unsaw, unfull}
 use Rattle.protocol.proofs.Laws.{all}
 use Rattle.protocol.proofs.Updates.{put_same, put_other}
 use Rattle.refinement.proofs.Acts.{Asks, stopped_by, Block, Act, Goes, Advance}
@@ -65,7 +64,7 @@ use Rattle.refinement.proofs.Acts.Block.{
   withdraws_freed,
   withdraws_empty,
 }
-use Rattle.refinement.proofs.Calls.{step_advances, placing_events, Placement, place_advances}
+use Rattle.refinement.proofs.Calls.{step_advances, placing_events, place_advances}
 use Rattle.refinement.proofs.Counts.{step_counts, place_counts}
 use Rattle.refinement.proofs.Kept.{step_good, place_good, fresh_good}
 use Rattle.refinement.proofs.Own.{Good, PhaseOwn}
@@ -79,11 +78,11 @@ use Rattle.law.specs.Ledger.Desk.{free, asked}
 use Rattle.law.specs.Law.{Known, Disturbed, Justified, Prompt, Counted, most, Lawful as LawfulRun}
 use Rattle.law.proofs.Traces.{none_some, some_same, true_false, unborn_at}
 use Rattle.law.proofs.Others.{desk_other}
-use Rattle.law.proofs.Matches.{Base, Matches, matches_step, base_certify, base_withdraw, lawful_split}
+use Rattle.law.proofs.Matches.{Matches, matches_step, base_certify, base_withdraw, lawful_split}
 use Rattle.law.proofs.Placed.{matches_ask, matches_begin}
 use Rattle.law.proofs.Serial.{serial, genuine}
 use Rattle.law.proofs.Snapshots.{consistent}
-use Rattle.law.proofs.Disturbance.{Holding, Watch, disturbed_more, justified_more}
+use Rattle.law.proofs.Disturbance.{Watch, disturbed_more, justified_more}
 use Rattle.law.proofs.Watch.{watch_block, watch_certify, watch_withdraw, justifies, blames}
 
 -- a request that frees what it holds has steps left

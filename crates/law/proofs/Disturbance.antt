@@ -1,62 +1,19 @@
 -- An abort has a reason: another transaction held the object that it names, while both were open.
-use Rattle.std.proofs.Common.{◌≡◌, ℕ, suc, ◌+◌, ◌<◌, ◌≤◌, Bool, true, false, cond, not, ◌&&◌, ◌||◌, T, eqb, ◌⊎◌, List, [], ◌∷◌, ◌++◌, length, Some, None, Option, sym, refl, ap, ◌∙◌, subst, inl, inr, arith}
-use Rattle.std.proofs.lemmas.Bool.{cases_eq, eq-eqb, ne_eqb, cond-true, cond-false}
-use Rattle.tables.specs.declared.reply.Answer.TheVariants as answer_is
+use Rattle.std.proofs.Common.{◌≡◌, ℕ, suc, ◌<◌, ◌≤◌, Bool, true, false, cond, ◌&&◌, eqb, ◌⊎◌, List, [], ◌∷◌, length, Some, None, Option, sym, refl, ap, ◌∙◌, subst, inl, inr, arith}
+use Rattle.std.proofs.lemmas.Bool.{cases_eq, eq-eqb, cond-true}
 use Rattle.tables.specs.declared.reply.Conflict.{Conflict}
 use Rattle.tables.specs.declared.reply.Conflict.TheVariants as conflict
-use Rattle.tables.specs.declared.reply.Request.{Request}
-use Rattle.tables.specs.declared.reply.Stepped.{Stepped}
 use Rattle.protocol.specs.Table.{put}
-use Rattle.protocol.specs.Protocol.{State, Phase, Held, Event, Why, Lawful, LawfulFrom, state, states}
+use Rattle.protocol.specs.Protocol.{Phase, Held, Event, state}
 use Rattle.protocol.specs.Protocol.Held.{nobody, by}
-use Rattle.protocol.specs.Protocol.Phase.{out, starting, running, certifying, aborting, sealing}
-use Rattle.protocol.specs.Protocol.Event.{certify, fail, store}
-use Rattle.protocol.specs.Protocol.Cause.{withdrawn}
+use Rattle.protocol.specs.Protocol.Phase.{out, aborting}
 use Rattle.protocol.specs.History.{history}
-use Rattle.protocol.specs.Commits.{commits_of}
 use Rattle.protocol.proofs.Updates.{put_same, put_other, put_is}
-use Rattle.protocol.proofs.Invariant.{Live, tag, differ, back}
-use Rattle.protocol.proofs.Freshness.{Fresh, FreshOf, Meets, fresh_turn, fresh_next}
-use Rattle.protocol.proofs.Laws.{all}
-use Rattle.refinement.proofs.Deciding.{cause_of}
-use Rattle.refinement.proofs.Acts.{Block}
-use Rattle.refinement.proofs.Acts.Block.{
-  reads_bank,
-  begins,
-  reads_own,
-  reads_now,
-  reads_later,
-  reads_waits,
-  extends_read,
-  reads_extended,
-  rewrites,
-  takes_now,
-  takes_later,
-  takes_waits,
-  extends_write,
-  writes_extended,
-  passes,
-  passes_last,
-  commits_nothing,
-  seals,
-  stores,
-  stores_last,
-  stops,
-  aborts,
-  frees,
-  aborts_freed,
-  aborts_empty,
-  withdraws_freed,
-  withdraws_empty,
-}
-use Rattle.law.specs.Trace.{Act, Entry, Trace, entry}
-use Rattle.law.specs.Trace.Act.{made}
-use Rattle.law.specs.Ledger.{Hold, first, is, among, count, whose, belongs, first_at, begins as begins_now, placed_at, ended_at, stored_at, freed_at, taken, holds, of_answer, effect_of, hold}
-use Rattle.law.specs.Law.{In, Known, OpenAt, Keeps, HeldAt, Disturbed, Justified}
-use Rattle.law.proofs.Traces.{when, none_some, some_same, true_false, known_or, first_before, hold_before, taken_held, push_keeps}
-use Rattle.law.proofs.Times.{noted_known}
-use Rattle.law.proofs.Others.{first_other}
-use Rattle.law.proofs.Matches.{Base}
+use Rattle.protocol.proofs.Freshness.{FreshOf}
+use Rattle.law.specs.Trace.{Act, Entry, Trace}
+use Rattle.law.specs.Ledger.{first, is, among, count, whose, belongs, first_at, begins as begins_now, placed_at, ended_at, stored_at, freed_at, taken, holds, effect_of, hold}
+use Rattle.law.specs.Law.{Known, OpenAt, HeldAt, Disturbed, Justified}
+use Rattle.law.proofs.Traces.{none_some, some_same, first_before, hold_before, taken_held, push_keeps}
 
 module _ {K : Type 0} where
   -- a time on record stays, and a new one is the time of the entry

@@ -1,7 +1,7 @@
 -- A step of the engine keeps all that is on record in agreement with the protocol.
-use Rattle.std.proofs.Common.{◌≡◌, ℕ, suc, ◌+◌, ◌<◌, ◌≤◌, Bool, true, false, cond, ◌&&◌, eqb, ◌⊎◌, List, [], ◌∷◌, ◌++◌, length, Some, None, Option, sym, refl, ap, ◌∙◌, subst, inl, inr, arith}
+use Rattle.std.proofs.Common.{◌≡◌, ℕ, suc, ◌<◌, Bool, true, false, cond, ◌&&◌, eqb, ◌⊎◌, List, [], ◌∷◌, ◌++◌, length, Some, None, Option, sym, refl, ap, ◌∙◌, subst, inl, inr, arith}
 use Rattle.std.proofs.lemmas.List.{append_assoc}
-use Rattle.std.proofs.lemmas.Bool.{cases_eq, cases_Bool, eq-eqb, ne_eqb, cond-true, cond-false}
+use Rattle.std.proofs.lemmas.Bool.{cases_eq, cases_Bool, eq-eqb, ne_eqb, cond-true}
 use Rattle.tables.specs.declared.reply.Answer.{Answer}
 use Rattle.tables.specs.declared.reply.Conflict.{Conflict}
 use Rattle.tables.specs.declared.reply.Request.{Request}
@@ -9,15 +9,14 @@ use Rattle.tables.specs.declared.reply.Request.TheVariants.{Begin, Read, Write, 
 use Rattle.tables.specs.declared.reply.Stepped.{Stepped}
 use Rattle.protocol.specs.Table.{put}
 use Rattle.protocol.specs.Protocol.{State, Phase, Event, May, Lawful, LawfulFrom, state, states, fresh, next}
-use Rattle.protocol.specs.Protocol.Held.{by}
-use Rattle.protocol.specs.Protocol.Phase.{out, starting, running, certifying, aborting, sealing}
+use Rattle.protocol.specs.Protocol.Phase.{out, running, certifying, aborting, sealing}
 use Rattle.protocol.specs.Protocol.Cause.{withdrawn}
 use Rattle.protocol.specs.Protocol.Event.{begin, ready, look, check, extend, answer, own, write, certify, pass, seal, finish, move, store, fail, free, commit, close}
 use Rattle.protocol.specs.History.{History, history, enter}
 use Rattle.protocol.specs.Commits.{commits_of}
 use Rattle.protocol.proofs.Blocks.{joined, lawful_on}
 use Rattle.protocol.proofs.Updates.{put_same, put_other}
-use Rattle.protocol.proofs.Invariant.{Live, differ, one_holder}
+use Rattle.protocol.proofs.Invariant.{differ, one_holder}
 use Rattle.protocol.proofs.Laws.{all}
 use Rattle.protocol.proofs.Sequence.{sequence}
 use Rattle.refinement.proofs.Acts.{Block, Act}
@@ -53,11 +52,11 @@ use Rattle.refinement.proofs.Acts.Block.{
 }
 use Rattle.law.specs.Trace.{Trace, entry}
 use Rattle.law.specs.Trace.Act.{made}
-use Rattle.law.specs.Ledger.{Found, Desk, Hold, first, is, among, push, count, whose, wrote, makers, latest, taken, holds, requests, desk, desk_on, certifies, certified_at, of_request}
+use Rattle.law.specs.Ledger.{Found, Desk, Hold, first, is, among, count, whose, wrote, makers, latest, taken, holds, requests, desk, desk_on, certifies, certified_at, of_request}
 use Rattle.law.specs.Ledger.Desk.{free, asked}
 use Rattle.law.specs.Law.{In, Known}
-use Rattle.law.proofs.Traces.{none_some, true_false, push_false, hold_taken, among_in, certified_before, either_way}
-use Rattle.law.proofs.Times.{Certs, certs_at, certs_begin, noted_same, noted_keeps, noted_has}
+use Rattle.law.proofs.Traces.{true_false, push_false, hold_taken, among_in, certified_before}
+use Rattle.law.proofs.Times.{Certs, certs_at, certs_begin, noted_same, noted_has}
 use Rattle.law.proofs.Requests.{AsksAs, todo, started}
 use Rattle.law.proofs.Standing.{Going, in_certifying, in_aborting}
 use Rattle.law.proofs.Core.{CoreOf, core_certify, core_fail}

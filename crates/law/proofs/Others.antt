@@ -1,5 +1,5 @@
 -- A step of one process leaves the transactions of the others as they stand on record.
-use Rattle.std.proofs.Common.{◌≡◌, ℕ, suc, ◌<◌, ◌≤◌, Bool, true, false, cond, ◌&&◌, eqb, ◌⊎◌, List, [], ◌∷◌, ◌++◌, length, Some, None, Option, sym, refl, ap, ◌∙◌, subst, inl, inr, arith}
+use Rattle.std.proofs.Common.{◌≡◌, ℕ, suc, ◌<◌, ◌≤◌, Bool, true, false, ◌&&◌, eqb, List, ◌∷◌, Option, sym, refl, ap, inl, inr, arith}
 use mathlib.Core.Path.{transport}
 use Rattle.std.proofs.lemmas.Bool.{ne_eqb, cond-false}
 use Rattle.tables.specs.declared.reply.Request.{Request}
@@ -15,12 +15,12 @@ use Rattle.protocol.specs.Alone.Operation.{got, set}
 use Rattle.protocol.specs.Commits.{commits_of}
 use Rattle.protocol.proofs.Updates.{put_other}
 use Rattle.protocol.proofs.Laws.{all}
-use Rattle.law.specs.Trace.{Act, Entry, Trace, entry}
+use Rattle.law.specs.Trace.{Act, Trace, entry}
 use Rattle.law.specs.Trace.Act.{made}
-use Rattle.law.specs.Ledger.{Desk, Hold, is, push, whose, belongs, first_at, begun_at, makers, latest, holds, requests, desk, hold, effect_of, answer_of, certified_at, certifies}
+use Rattle.law.specs.Ledger.{Desk, Hold, is, whose, first_at, begun_at, makers, latest, holds, requests, desk, hold, effect_of, certified_at, certifies}
 use Rattle.law.specs.Law.{In}
 use Rattle.law.proofs.Traces.{push_false}
-use Rattle.law.proofs.Versions.{name, name_old}
+use Rattle.law.proofs.Versions.{name_old}
 use Rattle.law.proofs.Standing.{Standing, Going, standing_keeps}
 
 and_false : (x y : Bool) → y ≡ false → (x && y) ≡ false

@@ -1,5 +1,5 @@
 -- A placing keeps all that is on record in agreement with the protocol.
-use Rattle.std.proofs.Common.{◌≡◌, ℕ, suc, ◌<◌, ◌≤◌, Bool, true, false, cond, ◌&&◌, eqb, ◌⊎◌, List, [], ◌∷◌, ◌++◌, length, Some, None, Option, sym, refl, ap, ◌∙◌, subst, inl, inr, arith}
+use Rattle.std.proofs.Common.{◌≡◌, ℕ, suc, ◌≤◌, cond, eqb, ◌⊎◌, List, [], ◌∷◌, ◌++◌, length, Some, None, Option, sym, refl, ap, ◌∙◌, subst, inl, inr, arith}
 use Rattle.std.proofs.lemmas.Bool.{cases_eq, eq-eqb, ne_eqb, cond-true, cond-false}
 use Rattle.tables.specs.declared.reply.Request.{Request}
 use Rattle.tables.specs.declared.reply.Request.TheVariants.{Begin, Read, Write, Commit, Withdraw}
@@ -8,7 +8,6 @@ use Rattle.protocol.specs.Protocol.{Phase, Event, Lawful, state}
 use Rattle.protocol.specs.Protocol.Phase.{out, starting, running, sealing}
 use Rattle.protocol.specs.Protocol.Event.{begin}
 use Rattle.protocol.specs.History.{history}
-use Rattle.protocol.specs.Alone.{Operation}
 use Rattle.protocol.specs.Commits.{commits_of}
 use Rattle.protocol.proofs.Updates.{put_same, put_other}
 use Rattle.protocol.proofs.Invariant.{differ, back}
@@ -24,7 +23,7 @@ use Rattle.law.proofs.Requests.{AsksAs, todo, started, ops_ask}
 use Rattle.law.proofs.Standing.{Standing, HandAs, Owing, in_starting, in_running}
 use Rattle.law.proofs.Core.{OnRecord, Core, CoreOf, played}
 use Rattle.law.proofs.Others.{StandingOf, standing_at, desk_other}
-use Rattle.law.proofs.Matches.{Base, Matches}
+use Rattle.law.proofs.Matches.{Matches}
 
 module _ {K : Type 0} where
   -- what is on record once a request of a transaction is

@@ -1,5 +1,5 @@
 -- The requests on record, the operations of the protocol, and the run alone.
-use Rattle.std.proofs.Common.{◌≡◌, ℕ, zero, suc, Bool, true, false, cond, eqb, List, [], ◌∷◌, ◌++◌, Some, None, Option, sym, refl, ap, ◌∙◌, subst, inl, inr}
+use Rattle.std.proofs.Common.{◌≡◌, ℕ, zero, suc, Bool, true, false, cond, eqb, List, [], ◌∷◌, ◌++◌, Some, sym, refl, ap, ◌∙◌, subst, inl, inr}
 use mathlib.Core.Path.{fun_ext}
 use Rattle.std.proofs.lemmas.Bool.{cases_eq}
 use Rattle.tables.specs.declared.reply.Request.{Request}
@@ -13,7 +13,7 @@ use Rattle.protocol.proofs.Updates.{put_same, put_other, put_when}
 use Rattle.law.specs.Trace.{Trace}
 use Rattle.law.specs.Ledger.{Reading, Desk, first, requests, readings}
 use Rattle.law.specs.Ledger.Desk.{free, asked}
-use Rattle.law.specs.Law.{In, Alone, rested, shows, fed, gotten, alone, contents, SameReads}
+use Rattle.law.specs.Law.{In, Alone, shows, fed, gotten, alone, contents, SameReads}
 use Rattle.law.proofs.Traces.{when, true_false}
 
 module _ {K : Type 0} where

@@ -1,21 +1,17 @@
 -- From the protocol's law to the law over traces: serializability, and the contents of versions.
-use Rattle.std.proofs.Common.{◌≡◌, ℕ, zero, suc, ◌<◌, ◌≤◌, Bool, true, false, cond, ◌⊎◌, List, [], ◌∷◌, Some, None, Option, sym, refl, ap, ◌∙◌, subst, inl, inr, arith}
-use Rattle.std.proofs.lemmas.Bool.{cases_Bool, cases_eq, cond-true, cond-false}
+use Rattle.std.proofs.Common.{◌≡◌, ℕ, zero, suc, ◌<◌, ◌≤◌, Bool, true, false, cond, ◌⊎◌, List, ◌∷◌, sym, refl, ap, ◌∙◌, subst, inl, inr, arith}
+use Rattle.std.proofs.lemmas.Bool.{cases_eq}
 use Rattle.tables.specs.declared.reply.Request.{Request}
 use Rattle.protocol.specs.Protocol.{Event, Lawful, state}
 use Rattle.protocol.specs.History.{history}
-use Rattle.protocol.specs.Alone.{Operation, after}
 use Rattle.protocol.specs.Commits.{Commits, commits_of, committed}
 use Rattle.protocol.proofs.Laws.{all, serial_law}
 use Rattle.law.specs.Trace.{Trace}
-use Rattle.law.specs.Ledger.{Maker, Found, Reading, among, certified_at, sealed_at, stored_at, ended_at, placed_at, requests, readings, taken}
-use Rattle.law.specs.Ledger.Maker.{opening, by}
-use Rattle.law.specs.Ledger.Found.{version}
-use Rattle.law.specs.Law.{In, Known, Earlier, InOrder, Serial, Settled, Content, Genuine, rested, fed}
+use Rattle.law.specs.Ledger.{Maker, certified_at}
+use Rattle.law.specs.Law.{In, Earlier, InOrder, Serial, Settled, Content, Genuine, rested, fed}
 use Rattle.law.proofs.Traces.{none_some, true_false, either_way}
-use Rattle.law.proofs.Times.{Certs}
-use Rattle.law.proofs.Versions.{name, name_made}
-use Rattle.law.proofs.Requests.{started, sees_after, alone_leaves, same_reads}
+use Rattle.law.proofs.Versions.{name}
+use Rattle.law.proofs.Requests.{sees_after, alone_leaves, same_reads}
 use Rattle.law.proofs.Contents.{ContentOf}
 use Rattle.law.proofs.Matches.{Matches}
 

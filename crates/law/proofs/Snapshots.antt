@@ -1,16 +1,15 @@
 -- From the protocol's law to the law over traces: no transaction reads a version older than one that it comes after.
-use Rattle.std.proofs.Common.{◌≡◌, ℕ, zero, suc, ◌<◌, ◌≤◌, true, ◌⊎◌, List, [], ◌∷◌, Some, None, Option, sym, refl, ap, ◌∙◌, subst, inl, inr, arith}
+use Rattle.std.proofs.Common.{◌≡◌, ℕ, zero, suc, ◌<◌, ◌≤◌, ◌⊎◌, List, [], ◌∷◌, Some, sym, refl, ap, ◌∙◌, subst, inl, inr, arith}
 use Rattle.std.proofs.lemmas.Bool.{cases_lt}
-use Rattle.protocol.specs.Protocol.{Event, Lawful, state}
+use Rattle.protocol.specs.Protocol.{Event, Lawful}
 use Rattle.protocol.specs.History.{Access, Mark, history}
 use Rattle.protocol.specs.History as events
 use Rattle.protocol.specs.History.Access.{rd, ov}
 use Rattle.protocol.specs.History.Mark.{some}
-use Rattle.protocol.specs.Commits.{commits_of}
 use Rattle.protocol.specs.Consistent as protocol
 use Rattle.protocol.proofs.Laws.{all, consistent_law}
 use Rattle.law.specs.Trace.{Trace}
-use Rattle.law.specs.Ledger.{Maker, Reading, Hold, count, whose, placed_at, begun_at, sealed_at, readings, holds, makers, taken, begins}
+use Rattle.law.specs.Ledger.{Maker, Reading, placed_at, readings, holds, makers, taken, begins}
 use Rattle.law.specs.Ledger.Maker.{opening, by}
 use Rattle.law.specs.Ledger.Found.{version}
 use Rattle.law.specs.Law.{In, Known, NewerBy, Newer, ReadOf, Replaced, Follows, ComesAfter, KnownTo, Fair, Consistent}
@@ -19,7 +18,7 @@ use Rattle.law.specs.Law.ComesAfter.{reading as after_reading, replacing as afte
 use Rattle.law.proofs.Traces.{none_some, unborn_at, hold_taken, among_in}
 use Rattle.law.proofs.Versions.{name, name_made, Chain}
 use Rattle.law.proofs.Accesses.{Dated, Recorded}
-use Rattle.law.proofs.Writers.{MakerOf, writers}
+use Rattle.law.proofs.Writers.{writers}
 use Rattle.law.proofs.Matches.{Matches}
 
 opening_by : {t : ℕ} → opening ≡ by t → ⊥

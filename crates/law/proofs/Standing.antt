@@ -1,18 +1,17 @@
 -- How the open transaction of a process stands on record, by its phase in the protocol; and what sealed ones have still to store.
-use Rattle.std.proofs.Common.{◌≡◌, ℕ, suc, ◌<◌, ◌≤◌, Bool, true, not, T, eqb, ◌⊎◌, List, [], ◌∷◌, ◌++◌, Some, None, Option, sym, refl, ap, ◌∙◌, subst, inl, inr, arith}
-use Rattle.std.proofs.lemmas.Bool.{cases_eq}
+use Rattle.std.proofs.Common.{◌≡◌, ℕ, ◌<◌, ◌≤◌, Bool, true, not, T, eqb, ◌⊎◌, List, [], ◌∷◌, ◌++◌, Some, None, Option, sym, ap, ◌∙◌, inl, inr, arith}
 use Rattle.tables.specs.declared.reply.Request.{Request}
-use Rattle.tables.specs.declared.reply.Request.TheVariants.{Begin, Read, Write, Commit, Withdraw}
+use Rattle.tables.specs.declared.reply.Request.TheVariants.{Begin, Read, Commit}
 use Rattle.protocol.specs.Table.{put}
 use Rattle.protocol.specs.Protocol.{Phase, Hand, Held}
-use Rattle.protocol.specs.Protocol.Hand.{empty, full}
+use Rattle.protocol.specs.Protocol.Hand.{full}
 use Rattle.protocol.specs.Protocol.Held.{nobody, by}
-use Rattle.protocol.specs.Protocol.Phase.{out, starting, running, certifying, aborting, sealing}
+use Rattle.protocol.specs.Protocol.Phase.{starting, running, certifying, aborting, sealing}
 use Rattle.protocol.specs.Alone.{Operation, after}
-use Rattle.protocol.proofs.Updates.{put_same, put_other, put_is}
+use Rattle.protocol.proofs.Updates.{put_other, put_is}
 use Rattle.protocol.proofs.Invariant.{tag, differ, back}
 use Rattle.law.specs.Ledger.{Hold, Desk, latest}
-use Rattle.law.specs.Ledger.Desk.{free, asked}
+use Rattle.law.specs.Ledger.Desk.{asked}
 use Rattle.law.specs.Ledger.Found.{version}
 use Rattle.law.specs.Law.{In, Known}
 use Rattle.law.proofs.Versions.{name}

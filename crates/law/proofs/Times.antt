@@ -1,5 +1,5 @@
 -- The times on record, and the order of events: ends, certifications, seals and the seals before a begin.
-use Rattle.std.proofs.Common.{◌≡◌, ℕ, suc, ◌<◌, ◌≤◌, Bool, true, false, cond, eqb, ◌⊎◌, Some, None, Option, sym, refl, ap, ◌∙◌, subst, inl, inr, arith}
+use Rattle.std.proofs.Common.{◌≡◌, ℕ, suc, ◌<◌, ◌≤◌, Bool, true, cond, eqb, ◌⊎◌, Some, None, Option, sym, refl, ap, ◌∙◌, subst, inl, inr, arith}
 use Rattle.std.proofs.lemmas.Bool.{cases_eq, eq-eqb, ne_eqb, cond-true, cond-false}
 use Rattle.protocol.specs.Table.{put}
 use Rattle.protocol.specs.History.{Mark}
@@ -7,7 +7,7 @@ use Rattle.protocol.specs.History.Mark.{some}
 use Rattle.protocol.proofs.Updates.{put_same, put_other}
 use Rattle.law.specs.Ledger.{first}
 use Rattle.law.specs.Law.{Known, Earlier}
-use Rattle.law.proofs.Traces.{none_some, some_same, true_false, known_or, first_known, first_new}
+use Rattle.law.proofs.Traces.{some_same, known_or, first_known, first_new}
 
 -- a time that is noted for one transaction, unless it has one already
 abbrev pub noted : (ℕ → Bool) → (ℕ → Option ℕ) → ℕ → ℕ → Option ℕ

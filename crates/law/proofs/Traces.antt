@@ -1,10 +1,9 @@
 -- What holds of every trace, of whatever run.
-use Rattle.std.proofs.Common.{◌≡◌, ℕ, zero, suc, ◌<◌, ◌≤◌, Bool, true, false, cond, ◌&&◌, ◌||◌, eqb, ◌⊎◌, List, [], ◌∷◌, length, Some, None, Option, sym, refl, ap, ◌∙◌, subst, inl, inr, arith}
-use Rattle.std.proofs.lemmas.Bool.{cases_eq, cases_Bool, eq-eqb, ne_eqb, eqb-true, cond-true, cond-false, and_parts}
+use Rattle.std.proofs.Common.{◌≡◌, ℕ, suc, ◌<◌, ◌≤◌, Bool, true, false, cond, ◌&&◌, ◌||◌, eqb, ◌⊎◌, List, [], ◌∷◌, length, Some, None, Option, sym, refl, ap, ◌∙◌, subst, inl, inr, arith}
+use Rattle.std.proofs.lemmas.Bool.{cases_eq, cases_Bool, eq-eqb, ne_eqb, eqb-true, cond-true, cond-false}
 use Rattle.tables.specs.declared.reply.Answer.{Answer}
 use Rattle.tables.specs.declared.reply.Request.{Request}
-use Rattle.tables.specs.declared.reply.Stepped.{Stepped}
-use Rattle.law.specs.Trace.{Act, Entry, Trace, entry}
+use Rattle.law.specs.Trace.{Act, Entry, Trace}
 use Rattle.law.specs.Trace.Act.{placed, made}
 use Rattle.law.specs.Ledger.{Desk, Found, Reading, Hold, first, is, among, push, begins, count, whose, belongs, first_at, requests, taken, hold, holds, readings, reading, desk, desk_after, desk_on, certifies, certified_at, request_of, effect_of, answer_of, finds, of_request}
 use Rattle.law.specs.Ledger.Desk.{free, asked}

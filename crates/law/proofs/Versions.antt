@@ -1,16 +1,16 @@
 -- The versions of each object on record, and those of the protocol.
 use Rattle.std.proofs.Common.{◌≡◌, ℕ, zero, suc, ◌<◌, ◌≤◌, Bool, true, false, cond, ◌&&◌, ◌||◌, eqb, ◌⊎◌, List, [], ◌∷◌, Some, None, Option, sym, refl, ap, ◌∙◌, subst, inl, inr, arith}
-use Rattle.std.proofs.lemmas.Bool.{cases_eq, cases_Bool, eq-eqb, ne_eqb, eqb-true, cond-true, cond-false}
+use Rattle.std.proofs.lemmas.Bool.{cases_eq, eq-eqb, ne_eqb, cond-true, cond-false}
 use Rattle.protocol.specs.Table.{put}
 use Rattle.protocol.specs.History.{Access, Mark, writes}
-use Rattle.protocol.specs.History.Access.{rd, ov}
+use Rattle.protocol.specs.History.Access.{ov}
 use Rattle.protocol.specs.History.Mark.{none, some}
 use Rattle.protocol.proofs.Updates.{put_same, put_other, put_when}
 use Rattle.law.specs.Ledger.{Maker, first, among, latest}
 use Rattle.law.specs.Ledger.Maker.{opening, by}
 use Rattle.law.specs.Law.{Known}
-use Rattle.law.proofs.Traces.{when, none_some, true_false, known_or}
-use Rattle.law.proofs.Times.{noted, noted_was, noted_other}
+use Rattle.law.proofs.Traces.{when, true_false, known_or}
+use Rattle.law.proofs.Times.{noted_was}
 
 -- the maker of a version of the protocol
 abbrev pub name : (ℕ → ℕ) → ℕ → Maker

@@ -1,7 +1,6 @@
 -- Each step keeps on record who holds what, and gives aborts their reasons.
-use Rattle.std.proofs.Common.{◌≡◌, ℕ, suc, ◌+◌, ◌<◌, ◌≤◌, Bool, true, false, cond, ◌&&◌, ◌||◌, eqb, ◌⊎◌, List, [], ◌∷◌, ◌++◌, length, Some, None, Option, sym, refl, ap, ◌∙◌, subst, inl, inr, arith}
-use Rattle.std.proofs.lemmas.List.{append_assoc}
-use Rattle.std.proofs.lemmas.Bool.{cases_eq, eq-eqb, ne_eqb, cond-true, cond-false}
+use Rattle.std.proofs.Common.{◌≡◌, ℕ, Bool, true, false, cond, ◌&&◌, ◌||◌, eqb, ◌⊎◌, List, [], ◌∷◌, ◌++◌, Some, None, Option, sym, refl, ap, ◌∙◌, subst, inl, inr, arith}
+use Rattle.std.proofs.lemmas.Bool.{eq-eqb, ne_eqb, cond-true, cond-false}
 use Rattle.tables.specs.declared.reply.Conflict.{Conflict}
 use Rattle.tables.specs.declared.reply.Conflict.TheVariants as conflict
 use Rattle.tables.specs.declared.reply.Request.{Request}
@@ -13,15 +12,12 @@ use Rattle.protocol.specs.Protocol.Phase.{out, starting, running, certifying, ab
 use Rattle.protocol.specs.Protocol.Event.{certify, fail}
 use Rattle.protocol.specs.Protocol.Cause.{withdrawn}
 use Rattle.protocol.specs.History.{history}
-use Rattle.protocol.specs.Commits.{commits_of}
 use Rattle.protocol.proofs.Blocks.{joined}
-use Rattle.protocol.proofs.Updates.{put_same}
 use Rattle.protocol.proofs.Invariant.{Live, differ}
 use Rattle.protocol.proofs.Freshness.{FreshOf, Meets, fresh_turn, fresh_next}
 use Rattle.protocol.proofs.Laws.{all}
 use Rattle.refinement.proofs.Deciding.{cause_of}
-use Rattle.refinement.proofs.Acts.{Block, Act}
-use Rattle.refinement.proofs.Acts.Act.{plain, certifying_first, withdrawing_first}
+use Rattle.refinement.proofs.Acts.{Block}
 use Rattle.refinement.proofs.Acts.Block.{
   reads_bank,
   begins,
@@ -58,7 +54,7 @@ use Rattle.law.specs.Ledger.Desk.{asked}
 use Rattle.law.specs.Law.{Known, Disturbed, Justified}
 use Rattle.law.proofs.Traces.{when, none_some, some_same, true_false, known_or}
 use Rattle.law.proofs.Others.{first_other}
-use Rattle.law.proofs.Matches.{Leaves, leaves, Base, base_certify, base_withdraw, not_mine, lawful_split}
+use Rattle.law.proofs.Matches.{leaves, Base, not_mine}
 use Rattle.law.proofs.Disturbance.{Holding, holding_turn, holding_write, holding_release, Watch, disturbed_more, disturbed_now, placed_known}
 
 module _ {K : Type 0} (P : ℕ) (start : ℕ → K) (b : ℕ → ℕ) (j : Trace K) (es : List (Event K)) (lawful : Lawful P start b es) (c : Base start b j es) (w : Watch start b j es) (p : ℕ) (who : whose j p ≡ Some ((history es).current p))

@@ -1,9 +1,9 @@
 -- A sealed transaction that has written makes versions.
-use Rattle.std.proofs.Common.{◌≡◌, ℕ, suc, ◌<◌, ◌≤◌, true, false, List, [], ◌∷◌, sym, refl, ap, ◌∙◌, subst, inl, inr, arith}
+use Rattle.std.proofs.Common.{◌≡◌, ℕ, suc, ◌<◌, ◌≤◌, true, List, [], ◌∷◌, sym, refl, ap, ◌∙◌, inl, inr, arith}
 use Rattle.std.proofs.lemmas.Bool.{cases_eq}
 use Rattle.protocol.specs.Table.{put}
 use Rattle.protocol.specs.Protocol.{Event, Lawful, state}
-use Rattle.protocol.specs.Protocol.Phase.{running, certifying}
+use Rattle.protocol.specs.Protocol.Phase.{running}
 use Rattle.protocol.specs.Protocol.Event.{begin, ready, look, check, extend, answer, own, write, certify, pass, seal, finish, move, store, fail, free, commit, close}
 use Rattle.protocol.specs.History.{Access, history, writes}
 use Rattle.protocol.specs.History.Access.{rd, ov}

@@ -1,5 +1,5 @@
 -- A read, a write.
-use Rattle.std.proofs.Common.{◌≡◌, ℕ, ◌<◌, ◌≤◌, true, false, not, ◌⊎◌, List, ◌∷◌, sym, refl, ap, ◌∙◌, subst, inl, inr, arith}
+use Rattle.std.proofs.Common.{◌≡◌, ℕ, ◌<◌, ◌≤◌, true, false, ◌⊎◌, List, ◌∷◌, sym, refl, ap, ◌∙◌, subst, inl, inr, arith}
 use Rattle.std.proofs.lemmas.Bool.{cases_eq}
 use Rattle.protocol.specs.Table.{put}
 use Rattle.protocol.specs.Protocol.{State, Seen, Phase, May, Idle, next}
@@ -7,7 +7,7 @@ use Rattle.protocol.specs.Protocol.Held.{by}
 use Rattle.protocol.specs.Protocol.Seen.{saw}
 use Rattle.protocol.specs.Protocol.Hand.{empty, full}
 use Rattle.protocol.specs.Protocol.Phase.{out, starting, running, certifying, sealing}
-use Rattle.protocol.specs.Protocol.Event.{look, check, extend, answer, own, write, certify}
+use Rattle.protocol.specs.Protocol.Event.{look, check, extend, answer, own, write}
 use Rattle.protocol.specs.Alone.{Operation, after, Agrees}
 use Rattle.protocol.proofs.Sequence.{Sequence, note}
 use Rattle.protocol.specs.Alone.Operation.{got, set}

@@ -4,13 +4,11 @@ use Rattle.std.proofs.lemmas.Bool.{cases_eq, false≢true}
 use Rattle.protocol.specs.Table.{put}
 use Rattle.protocol.specs.Protocol.{State, Phase, May, next}
 use Rattle.protocol.specs.Protocol.Seen.{saw}
-use Rattle.protocol.specs.Protocol.Hand.{empty}
 use Rattle.protocol.specs.Protocol.Phase.{out, starting, running, certifying, sealing}
-use Rattle.protocol.specs.Protocol.Event.{look, certify, pass}
+use Rattle.protocol.specs.Protocol.Event.{certify, pass}
 use Rattle.protocol.specs.Alone.{Operation, after, Agrees}
 use Rattle.protocol.proofs.Sequence.{Sequence, alone, note}
 use Rattle.protocol.proofs.Updates.{put_same, put_other, put_is}
-use Rattle.protocol.proofs.Alone.{earlier}
 use Rattle.protocol.proofs.Invariant.{Inv, Looks, Live, Off, NoneDue, differ, back, row_other, row_same, none_due_back}
 
 module _ {K : Type 0} (P : ℕ) (opening : ℕ → K) (s : State K) (h : Sequence K) (l : Looks K) (i : Inv opening s h l) where

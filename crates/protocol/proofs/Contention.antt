@@ -1,11 +1,9 @@
 -- Whose stamp has changed was held by another meanwhile.
-use Rattle.std.proofs.Common.{◌≡◌, ℕ, ◌⊎◌, List, [], ◌∷◌, sym, refl, ap, ◌∙◌, subst, inl, inr}
+use Rattle.std.proofs.Common.{◌≡◌, ℕ, List, [], ◌∷◌, sym, refl, ap, ◌∙◌, subst, inl, inr}
 use Rattle.std.proofs.lemmas.Bool.{cases_eq}
 use Rattle.protocol.specs.Table.{put}
-use Rattle.protocol.specs.Protocol.{State, Seen, Hand, Phase, Cause, Event, May, state, Lawful, Why}
-use Rattle.protocol.specs.Protocol.Held.{by}
-use Rattle.protocol.specs.Protocol.Seen.{unseen, saw}
-use Rattle.protocol.specs.Protocol.Hand.{empty, full}
+use Rattle.protocol.specs.Protocol.{State, Phase, Cause, Event, May, state, Lawful, Why}
+use Rattle.protocol.specs.Protocol.Hand.{empty}
 use Rattle.protocol.specs.Protocol.Phase.{out, starting, running, certifying, aborting, sealing}
 use Rattle.protocol.specs.Protocol.Event.{begin, ready, look, check, extend, answer, own, write, certify, pass, seal, finish, move, store, fail, free, commit, close}
 use Rattle.protocol.specs.History.{history}

@@ -5,7 +5,6 @@ use Rattle.protocol.specs.Table.{put}
 use Rattle.protocol.specs.Protocol.{Phase}
 use Rattle.protocol.specs.Protocol.Phase.{out, starting, running, certifying, sealing}
 use Rattle.protocol.specs.History.{Access}
-use Rattle.protocol.specs.History.Mark.{none}
 use Rattle.protocol.proofs.Updates.{put_same, put_other, put_when}
 use Rattle.protocol.proofs.Invariant.{tag, differ, back}
 use Rattle.protocol.proofs.Facts.{Early, Who}

@@ -1,5 +1,5 @@
 -- What every lawful run keeps of its versions.
-use Rattle.std.proofs.Common.{◌≡◌, ℕ, ◌<◌, ◌≤◌, Bool, true, not, ◌⊎◌, List, [], ◌∷◌}
+use Rattle.std.proofs.Common.{◌≡◌, ℕ, ◌<◌, ◌≤◌, Bool, true, ◌⊎◌, List, [], ◌∷◌}
 use Rattle.protocol.specs.Protocol.{State, Held, Seen, Hand, Phase}
 use Rattle.protocol.specs.Protocol.Held.{by}
 use Rattle.protocol.specs.Protocol.Seen.{saw}

@@ -8,7 +8,7 @@ use Rattle.protocol.specs.Protocol.Hand.{empty, full}
 use Rattle.protocol.specs.Protocol.Phase.{out, starting, running, certifying, aborting, sealing}
 use Rattle.protocol.specs.Protocol.Event.{begin, ready, look, check, extend, answer, own, write, certify, pass, seal, finish, move, store, fail, free, commit, close}
 use Rattle.protocol.proofs.Updates.{put_other, put_is}
-use Rattle.protocol.proofs.Invariant.{Live, tag, differ, back, row_other, row_same, unsaw, unfull}
+use Rattle.protocol.proofs.Invariant.{Live, tag, back, row_other, row_same, unsaw, unfull}
 
 -- what a live process has seen or has in hand is as it was, or there was contention
 pub record Fresh {K : Type 0} (f : ℕ → Phase) (seen : ℕ → ℕ → Seen K) (hand : ℕ → Hand K) (stamp : ℕ → ℕ) (C : ℕ → ℕ → Type 0) : Type 0 where

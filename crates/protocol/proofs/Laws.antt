@@ -5,7 +5,7 @@ use Rattle.protocol.specs.Protocol.Held.{nobody, by}
 use Rattle.protocol.specs.Protocol.Seen.{unseen}
 use Rattle.protocol.specs.Protocol.Phase.{out, starting, running, certifying, aborting, sealing}
 use Rattle.protocol.specs.Protocol.Event.{begin, ready, look, check, extend, answer, own, write, certify, pass, seal, finish, move, store, fail, free, commit, close}
-use Rattle.protocol.specs.History.{History, version, enter, history}
+use Rattle.protocol.specs.History.{History, enter, history}
 use Rattle.protocol.specs.History.Mark.{none, some}
 use Rattle.protocol.proofs.Invariant.{Inv, Looks, Live, tag, differ, unheld}
 use Rattle.protocol.proofs.Facts.{Ghost, Facts, Early}

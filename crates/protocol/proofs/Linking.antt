@@ -3,7 +3,6 @@ use Rattle.std.proofs.Common.{◌≡◌, ℕ, zero, suc, ◌<◌, ◌≤◌, Boo
 use Rattle.std.proofs.lemmas.Bool.{cases_eq, cases_Bool, cond-true, cond-false}
 use Rattle.protocol.specs.Table.{put}
 use Rattle.protocol.specs.Protocol.{Phase}
-use Rattle.protocol.specs.Protocol.Held.{by}
 use Rattle.protocol.specs.Protocol.Phase.{out, starting, running, certifying}
 use Rattle.protocol.specs.History.{History, Mark}
 use Rattle.protocol.specs.History.Mark.{some}

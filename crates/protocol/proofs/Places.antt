@@ -6,7 +6,7 @@ use Rattle.protocol.specs.Protocol.Seen.{unseen}
 use Rattle.protocol.specs.Protocol.Hand.{empty}
 use Rattle.protocol.specs.Protocol.Phase.{out, certifying}
 use Rattle.protocol.specs.Protocol.Event.{begin, ready, look, check, extend, answer, own, write, certify, pass, seal, finish, move, store, fail, free, commit, close}
-use Rattle.protocol.proofs.Sequence.{Sequence, alone, note, sequence}
+use Rattle.protocol.proofs.Sequence.{Sequence, note, sequence}
 use Rattle.protocol.proofs.Invariant.{Inv, Looks, differ, unheld, unsaw, unfull}
 use Rattle.protocol.proofs.Ends.{keep_begin, keep_ready, keep_fail, keep_commit, keep_close, keep_move}
 use Rattle.protocol.proofs.Accesses.{keep_look, keep_check, keep_extend, keep_answer, keep_own, keep_write}

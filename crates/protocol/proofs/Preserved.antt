@@ -8,7 +8,7 @@ use Rattle.protocol.specs.Protocol.Seen.{unseen, saw}
 use Rattle.protocol.specs.Protocol.Hand.{empty, full}
 use Rattle.protocol.specs.Protocol.Phase.{out, starting, running, certifying, aborting, sealing}
 use Rattle.protocol.specs.Protocol.Event.{begin, ready, look, check, extend, answer, own, write, certify, pass, seal, finish, move, store, fail, free, commit, close}
-use Rattle.protocol.specs.History.{History, In, version, writes, enter}
+use Rattle.protocol.specs.History.{History, In, writes, enter}
 use Rattle.protocol.specs.History.Access.{rd, ov}
 use Rattle.protocol.specs.History.Mark.{some}
 use Rattle.protocol.proofs.Updates.{put_same, put_other, put_is}

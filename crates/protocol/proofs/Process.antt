@@ -4,7 +4,6 @@ use Rattle.std.proofs.lemmas.Bool.{cases_eq, cases_lt, false≢true}
 use Rattle.protocol.specs.Table.{put}
 use Rattle.protocol.specs.Protocol.Seen.{unseen, saw}
 use Rattle.protocol.specs.Protocol.Hand.{empty, full}
-use Rattle.protocol.specs.Protocol.Event.{seal}
 use Rattle.protocol.specs.History.{Access, Mark, In, version}
 use Rattle.protocol.specs.History.Access.{rd, ov}
 use Rattle.protocol.specs.History.Mark.{some}

@@ -1,12 +1,12 @@
 -- The seal, and what comes after it; an object freed.
-use Rattle.std.proofs.Common.{◌≡◌, ℕ, ◌<◌, not, ◌⊎◌, List, sym, refl, ap, ◌∙◌, inl, inr, arith}
+use Rattle.std.proofs.Common.{◌≡◌, ℕ, ◌<◌, ◌⊎◌, List, sym, refl, ap, ◌∙◌, inl, inr, arith}
 use Rattle.std.proofs.lemmas.Bool.{cases_eq, cases_lt}
 use Rattle.protocol.specs.Table.{put}
 use Rattle.protocol.specs.Protocol.{State, May, next}
 use Rattle.protocol.specs.Protocol.Held.{nobody, by}
 use Rattle.protocol.specs.Protocol.Phase.{out, starting, running, certifying, aborting, sealing}
 use Rattle.protocol.specs.Protocol.Event.{seal, finish, store, free}
-use Rattle.protocol.specs.Alone.{Operation, after, Agrees}
+use Rattle.protocol.specs.Alone.{Operation, Agrees}
 use Rattle.protocol.proofs.Sequence.{Sequence, alone, note}
 use Rattle.protocol.proofs.Updates.{put_same, put_other, put_is, put_when}
 use Rattle.protocol.proofs.Alone.{Unwritten, earlier, elsewhere, later}

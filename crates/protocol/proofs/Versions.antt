@@ -5,7 +5,6 @@ use Rattle.protocol.specs.Table.{put}
 use Rattle.protocol.specs.Protocol.{Held, Phase}
 use Rattle.protocol.specs.Protocol.Held.{nobody, by}
 use Rattle.protocol.specs.Protocol.Phase.{certifying, sealing}
-use Rattle.protocol.specs.Protocol.Event.{seal}
 use Rattle.protocol.specs.History.{Access, Mark, In}
 use Rattle.protocol.specs.History.Access.{rd}
 use Rattle.protocol.specs.History.Mark.{none, some}

@@ -1,17 +1,14 @@
 -- Certification, conflicts and the withdrawal of a transaction that holds nothing, as blocks of events.
-use Rattle.std.proofs.Common.{◌≡◌, ℕ, zero, ◌+◌, ◌<◌, Bool, true, false, ◌⊎◌, List, [], ◌∷◌, ◌++◌, length, drop, Some, sym, refl, ap, ◌∙◌, subst, inl, inr, arith}
-use Rattle.tables.specs.Lookup.{pair}
+use Rattle.std.proofs.Common.{◌≡◌, ℕ, ◌+◌, ◌<◌, Bool, true, false, ◌⊎◌, List, [], ◌∷◌, ◌++◌, length, drop, Some, sym, refl, ap, ◌∙◌, subst, inl, inr, arith}
 use Rattle.tables.specs.Tables.{Tables, process_at, object_at, hand_at, read_at, read_set, write_set, with_process}
-use Rattle.tables.specs.declared.process.Access.{Access}
-use Rattle.tables.specs.declared.process.Access.TheVariants as access
 use Rattle.tables.specs.declared.process.Phase.{Phase}
 use Rattle.tables.specs.declared.process.Phase.TheVariants.{Certifying, Freeing}
 use Rattle.engine.specs.Outcome.{advanced}
 use Rattle.engine.specs.Look.{foreign, differs}
 use Rattle.protocol.specs.Table.{put}
-use Rattle.protocol.specs.Protocol.{states, LawfulFrom, State, Held, Event, May, Cause, Why}
+use Rattle.protocol.specs.Protocol.{states, LawfulFrom, State, Event, May, Cause, Why}
 use Rattle.protocol.specs.Protocol.Phase.{running, certifying, aborting}
-use Rattle.protocol.specs.Protocol.Event.{look, write, certify, pass, finish, fail, close}
+use Rattle.protocol.specs.Protocol.Event.{certify, pass, finish, fail, close}
 use Rattle.protocol.proofs.Blocks.{joined, lawful_on}
 use Rattle.protocol.proofs.Updates.{put_same}
 use Rattle.protocol.proofs.Invariant.{differ}

@@ -6,13 +6,10 @@ use Rattle.std.proofs.lemmas.List.{get_or-take, get_or-drop}
 use Rattle.tables.specs.Lookup.{pair, value_of}
 use Rattle.tables.specs.Tables.{Tables, process_at, object_at, read_at, read_set}
 use Rattle.tables.specs.declared.map.Slot.{Slot}
-use Rattle.tables.specs.declared.process.Access.{Access}
-use Rattle.tables.specs.declared.process.Access.TheVariants as access
 use Rattle.engine.specs.Look.{foreign, differs}
 use Rattle.protocol.specs.Table.{put}
 use Rattle.protocol.specs.Protocol.{State, Open, Same}
 use Rattle.protocol.specs.Protocol.Seen.{saw}
-use Rattle.protocol.specs.Protocol.Event.{look}
 use Rattle.protocol.proofs.Updates.{put_when}
 use Rattle.refinement.proofs.Own.{Good}
 use Rattle.refinement.proofs.Sets.{names, apart, among}

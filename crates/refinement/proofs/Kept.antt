@@ -1,21 +1,12 @@
 -- Every call keeps a memory good, a fresh memory is good, and no call on a good memory is refused for its tables.
-use Rattle.std.proofs.Common.{◌≡◌, ℕ, ◌+◌, ◌-◌, ◌*◌, ◌^◌, ◌<◌, ◌≤◌, Bool, true, false, cond, not, ◌&&◌, eqb, ltb, List, [], length, Some, None, Option, sym, refl, ap, ◌∙◌, subst, inl, inr, arith}
+use Rattle.std.proofs.Common.{◌≡◌, ℕ, ◌+◌, ◌-◌, ◌*◌, ◌^◌, ◌<◌, ◌≤◌, Bool, true, false, cond, ◌&&◌, eqb, ltb, List, [], length, Some, None, Option, sym, refl, ap, ◌∙◌, subst, inl, inr, arith}
 use Rattle.std.proofs.lemmas.Bool.{cases_lt, cases_Bool, and_from, eqb-true, eqb-false, lt-ltb, le-ltb, eq-eqb}
-use Rattle.std.proofs.lemmas.Bool.Decides.{nat_tests}
 use Rattle.tables.specs.Lookup.{pair}
 use Rattle.tables.specs.Tables.{Tables, process_at, read_set, write_set, with_process, with_hand, blank_object, sizes_ok}
 use Rattle.tables.specs.declared.memory.Object.{Object}
-use Rattle.tables.specs.declared.process.Access.{Access}
-use Rattle.tables.specs.declared.process.Access.TheVariants as access
-use Rattle.tables.specs.declared.process.Ending.TheVariants.{Withdraw}
 use Rattle.tables.specs.declared.process.Process.{Process}
-use Rattle.tables.specs.declared.reply.Conflict.{Conflict}
-use Rattle.tables.specs.declared.reply.Conflict.TheVariants as conflict
-use Rattle.engine.specs.declared.look.Look.{Look}
-use Rattle.engine.specs.declared.look.Look.TheVariants as look
 use Rattle.engine.specs.Sound.{object_ok, sound_ok}
 use Rattle.refinement.proofs.Windows.{window}
-use Rattle.refinement.proofs.Sets.{names}
 use Rattle.refinement.proofs.Own.{Good, sound_from}
 use Rattle.refinement.proofs.Changes.{sets_stay, hands_good}
 use Rattle.refinement.proofs.Frames.{own_at}

@@ -1,6 +1,6 @@
 -- The steps of snapshot extension and certification whose look has passed, as blocks of events.
 use Rattle.std.proofs.Common.{◌≡◌, ℕ, ◌+◌, ◌*◌, ◌<◌, ◌≤◌, Bool, true, false, cond, eqb, List, [], ◌∷◌, length, drop, Some, Option, sym, refl, ap, ◌∙◌, subst, inl, inr, arith}
-use Rattle.tables.specs.Lookup.{pair, value_of}
+use Rattle.tables.specs.Lookup.{value_of}
 use Rattle.tables.specs.Tables.{Tables, process_at, object_at, hand_at, read_at, read_set, with_process}
 use Rattle.tables.specs.declared.map.Slot.{Slot}
 use Rattle.tables.specs.declared.process.Access.{Access}
@@ -15,7 +15,7 @@ use Rattle.protocol.specs.Protocol.{LawfulFrom, State, May}
 use Rattle.protocol.specs.Protocol.Held.{by}
 use Rattle.protocol.specs.Protocol.Seen.{saw}
 use Rattle.protocol.specs.Protocol.Hand.{empty, full}
-use Rattle.protocol.specs.Protocol.Event.{look, check, extend, answer, pass}
+use Rattle.protocol.specs.Protocol.Event.{check, extend, answer}
 use Rattle.protocol.proofs.Updates.{put_same}
 use Rattle.refinement.proofs.Frames.{Frame}
 use Rattle.refinement.proofs.Own.{Good}

@@ -1,5 +1,5 @@
 -- The placings, and the steps that touch no object, as blocks of events.
-use Rattle.std.proofs.Common.{◌≡◌, ℕ, ◌+◌, ◌*◌, ◌<◌, ◌≤◌, min, Bool, true, false, not, List, [], ◌∷◌, length, drop, Some, None, sym, refl, ap, ◌∙◌, subst, inl, inr, arith}
+use Rattle.std.proofs.Common.{◌≡◌, ℕ, ◌+◌, ◌*◌, ◌<◌, ◌≤◌, min, Bool, true, false, List, [], ◌∷◌, length, drop, Some, None, sym, refl, ap, ◌∙◌, subst, inl, inr, arith}
 use Rattle.std.proofs.lemmas.Bool.{cases_lt}
 use Rattle.std.proofs.lemmas.List.{drop_all}
 use Rattle.tables.specs.Lookup.{value_of}
@@ -15,9 +15,8 @@ use Rattle.engine.specs.Place.{first_phase, placed}
 use Rattle.protocol.specs.Protocol.{states, LawfulFrom, State, Event}
 use Rattle.protocol.specs.Protocol.Held.{by}
 use Rattle.protocol.specs.Protocol.Seen.{unseen}
-use Rattle.protocol.specs.Protocol.Hand.{empty}
 use Rattle.protocol.specs.Protocol.Phase.{starting, running}
-use Rattle.protocol.specs.Protocol.Event.{begin, ready, write}
+use Rattle.protocol.specs.Protocol.Event.{begin, ready}
 use Rattle.protocol.proofs.Invariant.{differ}
 use Rattle.refinement.proofs.Frames.{Frame}
 use Rattle.refinement.proofs.Own.{Good}

@@ -24,7 +24,7 @@ use Rattle.engine.specs.Look.{foreign, differs, judged, pair_looked}
 use Rattle.engine.specs.Ends.{ending_answer, stopped, unheld_object, released, free_step}
 use Rattle.engine.specs.Begin.{begin_step}
 use Rattle.engine.specs.Reads.{current, read_joined, joined}
-use Rattle.engine.specs.Writes.{held_by, write_joined, holding, held}
+use Rattle.engine.specs.Writes.{held_by, write_joined, holding}
 use Rattle.engine.specs.Commit.{seal_stamp, sealed, sealed_at, sealed_bank, stored_object, stored, store_step}
 use Rattle.engine.specs.Looked.{passed, after_look, read_at_value, read_step, write_at_place, write_step}
 use Rattle.engine.specs.Step.{commit_step, commit_bank, phase_step, phase_bank}

@@ -1,5 +1,5 @@
 -- The tables of a memory as plain lists, by their parts.
-use Rattle.std.specs.Prelude.{ℕ, ◌+◌, ◌*◌, Bool, false, ◌&&◌, List, length, take, drop, set, None, vec_items, ◌==◌, nat_le, slice_index_or, slice_set}
+use Rattle.std.specs.Prelude.{ℕ, ◌+◌, ◌*◌, Bool, false, ◌&&◌, List, length, take, drop, None, vec_items, ◌==◌, nat_le, slice_index_or, slice_set}
 use Rattle.tables.specs.Lookup.{pair}
 use Rattle.tables.specs.declared.map.Slot.{Slot}
 use Rattle.tables.specs.declared.memory.Memory.{Memory}

@@ -1,10 +1,10 @@
 -- The run is computed. Transaction 1 has two reads and no holds: object 1 of the opening first, then object 0 of transaction 0.
-use Rattle.std.proofs.Common.{◌≡◌, ℕ, ◌<◌, ◌⊎◌, List, [], ◌∷◌, sym, refl, ap, ◌∙◌, subst, inl, inr, arith}
+use Rattle.std.proofs.Common.{◌≡◌, ℕ, [], ◌∷◌, sym, refl, ap, ◌∙◌, subst, inl, inr, arith}
 use Rattle.engine.specs.Sound.{refused}
-use Rattle.law.specs.Ledger.{Maker, Found, Reading, Hold, readings, holds}
+use Rattle.law.specs.Ledger.{Maker, Reading, readings, holds}
 use Rattle.law.specs.Ledger.Maker.{opening, by}
 use Rattle.law.specs.Ledger.Found.{version}
-use Rattle.law.specs.Law.{In, KnownTo, FairAt, Fair}
+use Rattle.law.specs.Law.{In, KnownTo, Fair}
 use Rattle.journal.specs.Traces.Reached.{fresh}
 use Rattle.worked.specs.Example.{run}
 use Rattle.worked.proofs.example_meets_the_premises.Goals as goal
