@@ -2,7 +2,7 @@
 ghost use Rattle.std.specs.Prelude.{◌≡◌, ◌<◌, length};
 ghost use Rattle.tables.specs.Tables.{tables_of, process_at};
 ghost use Rattle.engine.specs.Ready.{Ready};
-ghost use Rattle.engine.specs.Place.{is_idle, due as is-due, access_no, object_no, request_no, first_phase, handed, place_call};
+ghost use Rattle.engine.specs.Place.{is_idle, due as is_due, access_no, object_no, request_no, first_phase, handed, place_call};
 
 use super::places::{process, set_hand};
 use super::questions::questions;
@@ -22,7 +22,7 @@ fn idle(phase: Phase) -> bool
 
 // Is a transaction open, or for a begin none?
 fn due<K: Kind>(request: Request<K>, live: bool) -> bool
-    ensures { result ≡ is-due request live }
+    ensures { result ≡ is_due request live }
 {
     match request {
         Request::Begin => !live,

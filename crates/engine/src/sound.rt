@@ -3,7 +3,7 @@
 ghost use Rattle.std.specs.Prelude.{◌≡◌, ◌+◌, ◌≤◌, nat_le};
 ghost use Rattle.tables.specs.Tables.{tables_of, process_at, sizes_ok};
 ghost use Rattle.engine.specs.Ready.{Ready};
-ghost use Rattle.engine.specs.Sound.{object_ok, named_ok, all_named, distinct as apart, stamps_ok, counts_ok, room, sets_ok, readable as can-read, writable as can_write_lem, access_room, conflict_ok, ending_ok, steps_left, phase_ok};
+ghost use Rattle.engine.specs.Sound.{object_ok, named_ok, all_named, distinct as apart, stamps_ok, counts_ok, room, sets_ok, readable as can_read, writable as can_write, access_room, conflict_ok, ending_ok, steps_left, phase_ok};
 
 use super::places::{process, read_set, write_set};
 use banks::LARGEST;
@@ -121,7 +121,7 @@ fn has_room<V: Copy>(set: Map<'_, V>, n: usize, most: usize, x: usize) -> bool
 // May p read x: is it in a set of p, or has the read set a free place?
 pub(crate) fn readable<K: Kind>(memory: &Memory<K>, p: usize, x: usize) -> bool
     requires { Ready (tables_of memory.now) p }
-    ensures { result ≡ can-read (tables_of memory.now) p x }
+    ensures { result ≡ can_read (tables_of memory.now) p x }
 {
     write_set(memory, p).get(x).is_some()
         || has_room(
@@ -135,7 +135,7 @@ pub(crate) fn readable<K: Kind>(memory: &Memory<K>, p: usize, x: usize) -> bool
 // May p write x: is it in the write set of p, or has that a free place?
 pub(crate) fn writable<K: Kind>(memory: &Memory<K>, p: usize, x: usize) -> bool
     requires { Ready (tables_of memory.now) p }
-    ensures { result ≡ can_write_lem (tables_of memory.now) p x }
+    ensures { result ≡ can_write (tables_of memory.now) p x }
 {
     has_room(
         write_set(memory, p),

@@ -51,15 +51,15 @@ pub earlier_at : (a b a' b' : Option ℕ) → a' ≡ a → b' ≡ b → Earlier 
 earlier_at a b a' b' p q e = (e.0, e.1, p ∙ e.2, q ∙ e.3, e.4)
 
 -- Ends: a transaction on record as ended has ended, and before those that were placed later.
-pub record Ends (ended_at placed_at_lem : ℕ → Option ℕ) (ended : ℕ → Mark) (begun_at : ℕ → ℕ) : Type 0 where
+pub record Ends (ended_at placed_at : ℕ → Option ℕ) (ended : ℕ → Mark) (begun_at : ℕ → ℕ) : Type 0 where
   pub ends : (t : ℕ) → Known (ended_at t) → (n : ℕ) × (ended t ≡ some n)
-  pub before : (t u : ℕ) → Earlier (ended_at t) (placed_at_lem u) → (n : ℕ) × (ended t ≡ some n) × (n < begun_at u)
+  pub before : (t u : ℕ) → Earlier (ended_at t) (placed_at u) → (n : ℕ) × (ended t ≡ some n) × (n < begun_at u)
 
 -- t ends
-pub ends_end : (ended_at placed_at_lem : ℕ → Option ℕ) (ended : ℕ → Mark) (begun_at : ℕ → ℕ) (b : ℕ → Bool) (t k now : ℕ) → ((u : ℕ) → b u ≡ eqb t u)
-    → Before placed_at_lem k → ((n : ℕ) → ended t ≡ some n → ⊥) → Ends ended_at placed_at_lem ended begun_at
-    → Ends (noted b ended_at k) placed_at_lem (put ended t (some now)) begun_at
-ends_end ended_at placed_at_lem ended begun_at b t k now own past going c =
+pub ends_end : (ended_at placed_at : ℕ → Option ℕ) (ended : ℕ → Mark) (begun_at : ℕ → ℕ) (b : ℕ → Bool) (t k now : ℕ) → ((u : ℕ) → b u ≡ eqb t u)
+    → Before placed_at k → ((n : ℕ) → ended t ≡ some n → ⊥) → Ends ended_at placed_at ended begun_at
+    → Ends (noted b ended_at k) placed_at (put ended t (some now)) begun_at
+ends_end ended_at placed_at ended begun_at b t k now own past going c =
     record {
       ends = λ u h.
           elim (cases_eq t u) [
@@ -76,7 +76,7 @@ ends_end ended_at placed_at_lem ended begun_at b t k now own past going c =
                 omega arith
                 )
             | inr e ↦
-                (let i = c.before u v (earlier_at _ _ (ended_at u) (placed_at_lem v) (sym (noted_other b t k own ended_at u e)) refl h) in
+                (let i = c.before u v (earlier_at _ _ (ended_at u) (placed_at v) (sym (noted_other b t k own ended_at u e)) refl h) in
                 (i.0, put_other ended t (some now) u e ∙ i.1, i.2))
           ];
     }
@@ -85,10 +85,10 @@ ends_end ended_at placed_at_lem ended begun_at b t k now own past going c =
     unknown = elim (known_or (ended_at t)) [ inl e ↦ e | inr e ↦ absurd (let i = c.ends t e in going i.0 i.1) ]
 
 -- a new transaction t is placed
-pub ends_place : (ended_at placed_at_lem : ℕ → Option ℕ) (ended : ℕ → Mark) (begun_at : ℕ → ℕ) (b : ℕ → Bool) (t k now : ℕ) → ((u : ℕ) → b u ≡ eqb t u)
-    → placed_at_lem t ≡ None → ((u n : ℕ) → ended u ≡ some n → n < now) → Ends ended_at placed_at_lem ended begun_at
-    → Ends ended_at (noted b placed_at_lem k) ended (put begun_at t now)
-ends_place ended_at placed_at_lem ended begun_at b t k now own new past c =
+pub ends_place : (ended_at placed_at : ℕ → Option ℕ) (ended : ℕ → Mark) (begun_at : ℕ → ℕ) (b : ℕ → Bool) (t k now : ℕ) → ((u : ℕ) → b u ≡ eqb t u)
+    → placed_at t ≡ None → ((u n : ℕ) → ended u ≡ some n → n < now) → Ends ended_at placed_at ended begun_at
+    → Ends ended_at (noted b placed_at k) ended (put begun_at t now)
+ends_place ended_at placed_at ended begun_at b t k now own new past c =
     record {
       ends = c.ends;
       before = λ u v h.
@@ -98,7 +98,7 @@ ends_place ended_at placed_at_lem ended begun_at b t k now own new past c =
                 let m = past u i.0 i.1 in
                 let n : put begun_at t now v ≡ now = put_same begun_at t now v e in (i.0, i.1, omega arith))
             | inr e ↦
-                (let i = c.before u v (earlier_at _ _ (ended_at u) (placed_at_lem v) refl (sym (noted_other b t k own placed_at_lem v e)) h) in
+                (let i = c.before u v (earlier_at _ _ (ended_at u) (placed_at v) refl (sym (noted_other b t k own placed_at v e)) h) in
                 let n : put begun_at t now v ≡ begun_at v = put_other begun_at t now v e in
                 let m = i.2 in (i.0, i.1, omega arith))
           ];
