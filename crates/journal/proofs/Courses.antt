@@ -1,5 +1,5 @@
 -- Every list of calls, on a memory that lists of calls have reached from a fresh one, keeps the law over the whole run.
-use Rattle.std.proofs.Common.{◌≡◌, ℕ, ◌^◌, ◌≤◌, List, [], ◌∷◌, get_or, Ok, Err, Result, sym, refl, subst}
+use Rattle.std.proofs.Common.{◌≡◌, ℕ, ◌^◌, ◌≤◌, List, [], ◌∷◌, Ok, Err, Result, sym, refl, subst}
 use Rattle.tables.specs.Tables.{Tables}
 use Rattle.tables.specs.declared.refusal.Refusal.{Refusal}
 use Rattle.tables.specs.declared.reply.Stepped.{Stepped}
@@ -12,11 +12,11 @@ use Rattle.law.proofs.Course.{Course, course_step, course_place, course_fresh, l
 use Rattle.journal.specs.declared.call.Call.{Call}
 use Rattle.journal.specs.declared.call.Call.TheVariants.{Place, Step}
 use Rattle.journal.specs.declared.call.Line.{Line}
-use Rattle.journal.specs.Runs.{World, world, reply_to, placing_reply, step_reply, after_call, journal, after_calls}
-use Rattle.journal.specs.Trust.{AllTrusted, IsFresh}
+use Rattle.journal.specs.Runs.{World, reply_to, placing_reply, step_reply, after_call, journal, after_calls}
+use Rattle.journal.specs.Trust.{AllTrusted}
 use Rattle.journal.specs.Traces.{noted, trace_on, contents_of, Reached}
 use Rattle.journal.specs.Traces.Reached.{fresh, later}
-use Rattle.journal.proofs.Trusting.{step_is_trusted, place_is_trusted}
+use Rattle.journal.proofs.Trusting.{all_trusted}
 
 module _ {K B : Type 0} (e : K) (number : B → ℕ → ℕ) (moved : B → ℕ → ℕ → B) (ranged : (b : B) (q : ℕ) → number b q ≤ 2 ^ 40) (rises : (b : B) (p u q : ℕ) → number b q ≤ number (moved b p u) q) where
   -- the course of a memory and its bank
@@ -56,18 +56,5 @@ module _ {K B : Type 0} (e : K) (number : B → ℕ → ℕ) (moved : B → ℕ 
   law_holds P start w j r = let c = reached_course r in lawful_run e P start c.0 (number w.bank) w.tables j c.1
 
   -- no call is refused for the state of the tables
-  trusted_calls : (P : ℕ) (start : ℕ → K) (b : ℕ → ℕ) (w : World K B) (j : Trace K) (cs : List (Call K)) → CourseOf P start b w j → AllTrusted (journal e number moved w cs)
-  trusted_calls P start b w j [] k = tt
-  trusted_calls P start b w j (Place p q ∷ cs) k =
-      (place_is_trusted e w.tables p k.good q, trusted_calls P start b (after_call e number moved w (Place p q)) _ cs (call_course P start b w j (Place p q) k))
-  trusted_calls P start b w j (Step p ∷ cs) k =
-      (step_is_trusted e w.tables p k.good (number w.bank), trusted_calls P start b (after_call e number moved w (Step p)) _ cs (call_course P start b w j (Step p) k))
-
-  pub all_trusted : (P : ℕ) (start : ℕ → K) (w : World K B) (j : Trace K) (cs : List (Call K)) → Reached e number moved P start w j → AllTrusted (journal e number moved w cs)
-  all_trusted P start w j cs r = let c = reached_course r in trusted_calls P start c.0 w j cs c.1
-
-  -- every run from a fresh memory
-  pub fresh_trusted : (w : World K B) (cs : List (Call K)) → IsFresh e w.tables → AllTrusted (journal e number moved w cs)
-  fresh_trusted w cs f =
-      all_trusted f.1 (λ x. get_or f.0 x e) w [] cs
-      (subst (λ (t : Tables K). Reached e number moved f.1 (λ x. get_or f.0 x e) (world t w.bank) []) (sym f.3) (fresh f.0 f.1 w.bank f.2))
+  pub still_trusted : (P : ℕ) (start : ℕ → K) (w : World K B) (j : Trace K) (cs : List (Call K)) → Reached e number moved P start w j → AllTrusted (journal e number moved w cs)
+  still_trusted P start w j cs r = let c = reached_course r in all_trusted e number moved ranged w cs c.1.good

@@ -11,13 +11,14 @@ use Rattle.protocol.specs.Protocol.{State, Event, Lawful, LawfulFrom, state, fre
 use Rattle.protocol.proofs.Blocks.{joined, lawful_on}
 use Rattle.refinement.proofs.Calls.{step_advances, place_advances, step_refused, place_refused, placing_events}
 use Rattle.refinement.proofs.Counts.{step_counts, place_counts}
-use Rattle.refinement.proofs.Kept.{step_good, place_good, fresh_good}
+use Rattle.refinement.proofs.Kept.{fresh_good}
 use Rattle.refinement.proofs.Own.{Good}
 use Rattle.refinement.proofs.Placing.{Shown}
 use Rattle.refinement.proofs.View.{View}
 use Rattle.law.proofs.Course.{opening, fresh_view}
 use Rattle.journal.specs.Runs.{World, world, after_call, after_calls}
 use Rattle.journal.specs.declared.call.Call.{Call}
+use Rattle.journal.proofs.Trusting.{call_good}
 use Rattle.journal.specs.declared.call.Call.TheVariants.{Place, Step}
 
 -- a block of events that the tables u show
@@ -61,10 +62,6 @@ module _ {K B : Type 0} (e : K) (number : B → ℕ → ℕ) (moved : B → ℕ 
           (nothing e (length w.tables.processes) (number w.bank) w.tables s v))
 
 module _ {K B : Type 0} (e : K) (number : B → ℕ → ℕ) (moved : B → ℕ → ℕ → B) (ranged : (b : B) (q : ℕ) → number b q ≤ 2 ^ 40) (rises : (b : B) (p u q : ℕ) → number b q ≤ number (moved b p u) q) where
-  call_good : (w : World K B) (c : Call K) → Good e w.tables → Good e (after_call e number moved w c).tables
-  call_good w (Place p q) g = place_good e w.tables p q g
-  call_good w (Step p) g = step_good e (number w.bank) w.tables p g (ranged w.bank)
-
   call_counts : (w : World K B) (c : Call K) → length (after_call e number moved w c).tables.processes ≡ length w.tables.processes
   call_counts w (Place p q) = place_counts e w.tables p q
   call_counts w (Step p) = step_counts e w.tables p (number w.bank)
@@ -83,7 +80,7 @@ module _ {K B : Type 0} (e : K) (number : B → ℕ → ℕ) (moved : B → ℕ 
     follows : (w : World K B) (cs : List (Call K)) → Good e w.tables → length w.tables.processes ≡ P → Follows e number P start b w → Follows e number P start b (after_calls e number moved w cs)
     follows w [] g n f = f
     follows w (c ∷ cs) g n f =
-        follows (after_call e number moved w c) cs (call_good w c g) (call_counts w c ∙ n) (one_more w c g n f)
+        follows (after_call e number moved w c) cs (call_good e number moved ranged w c g) (call_counts w c ∙ n) (one_more w c g n f)
 
   pub run_refined : (contents : List K) (n : ℕ) (b : B) (cs : List (Call K)) → numbers_ok (length contents) n ≡ true
       → Follows e number n (opening e (number b) contents n) (number b) (after_calls e number moved (world (fresh_tables e contents n) b) cs)

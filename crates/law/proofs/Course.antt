@@ -33,7 +33,7 @@ use Rattle.protocol.proofs.Freshness.{fresh_turn, fresh_next}
 use Rattle.protocol.proofs.Invariant.{Live, differ, unsaw, unfull}
 use Rattle.protocol.proofs.Laws.{all}
 use Rattle.protocol.proofs.Updates.{put_same, put_other}
-use Rattle.refinement.proofs.Acts.{Asks, stopped_by, Block, Act, Goes, Advance}
+use Rattle.refinement.proofs.Acts.{Asks, stopped_by, Block, Act, HasStepped, has_stepped, Goes, Advance}
 use Rattle.refinement.proofs.Acts.Act.{plain, certifying_first, withdrawing_first}
 use Rattle.refinement.proofs.Acts.Block.{
   reads_bank,
@@ -186,6 +186,7 @@ module _ {K : Type 0} where
     pub hand : ((r.phase ≡ Idle) × (desk j p ≡ free)) ⊎ ((k : Request K) × (f : Option Found) × Asks h r.phase k × (desk j p ≡ asked k r.steps f))
     pub begun : r.live ≡ true → (u : ℕ) × (whose j p ≡ Some u)
     pub stopped : (k : Conflict) → stopped_by r.phase ≡ Some k → (u : ℕ) → whose j p ≡ Some u → Justified j u k
+    pub stepped : HasStepped r.phase r.steps
 
   -- with P processes, from the contents start and the bank's numbers b
   pub record Course (e : K) (P : ℕ) (start : ℕ → K) (b : ℕ → ℕ) (number : ℕ → ℕ) (t : Tables K) (j : Trace K) : Type 0 where
@@ -280,6 +281,7 @@ module _ {K : Type 0} where
         ];
         begun = λ l. let x = k.begun l in (x.0, same ∙ x.1);
         stopped = λ i s v w. justified_more (entry p a) j v i (k.stopped i s v (sym same ∙ w));
+        stepped = k.stepped;
       }
 
 module _ {K B : Type 0} (e : K) (number : B → ℕ → ℕ) (moved : B → ℕ → ℕ → B) (ranged : (b : B) (q : ℕ) → number b q ≤ 2 ^ 40) (rises : (b : B) (p u q : ℕ) → number b q ≤ number (moved b p u) q)
@@ -308,7 +310,7 @@ module _ {K B : Type 0} (e : K) (number : B → ℕ → ℕ) (moved : B → ℕ 
     may = subst (λ (n : ℕ). LawfulFrom n (state start b c.events) adv.events) c.processes adv.shown.lawful
 
     act : Act (state start b c.events) p in_hand.0 (process_at t p).steps (stopped_by (process_at t p).phase) z adv.events adv.conflict
-    act = adv.act in_hand.0 in_hand.2
+    act = adv.act (c.desks p).stepped in_hand.0 in_hand.2
 
     desk_is : desk (entry p (made z) ∷ j) p ≡ desk_on j (whose j p) (asked in_hand.0 (process_at t p).steps in_hand.1) z.answer
     desk_is = cond-true (eqb p p) _ _ (eq-eqb p p refl) ∙ ap (λ (k : Desk K). desk_on j (whose j p) k z.answer) in_hand.3
@@ -325,6 +327,7 @@ module _ {K B : Type 0} (e : K) (number : B → ℕ → ℕ) (moved : B → ℕ 
           hand = go z.answer refl (adv.goes in_hand.0 in_hand.2);
           begun = λ l. ((history c.events).current p, who);
           stopped = λ k s v q. over z.answer refl (adv.goes in_hand.0 in_hand.2) k s v q;
+          stepped = moved_on z.answer (adv.goes in_hand.0 in_hand.2);
         }
       where
         go : (a : Option (Answer K)) → z.answer ≡ a → Goes in_hand.0 (process_at t p).steps adv.conflict a (process_at u p) (hand_at e u p)
@@ -339,6 +342,10 @@ module _ {K B : Type 0} (e : K) (number : B → ℕ → ℕ) (moved : B → ℕ 
                   ∙ ap (λ (n : ℕ). asked in_hand.0 n (finds j (whose j p) (of_request in_hand.0).reads in_hand.1)) (let k = g.1 in let i : suc (process_at t p).steps ≡ (process_at u p).steps = omega arith in i),
             )
         go (Some a) q g = inl (g.0, desk_is ∙ ap (desk_on j (whose j p) (asked in_hand.0 (process_at t p).steps in_hand.1)) q)
+
+        moved_on : (a : Option (Answer K)) → Goes in_hand.0 (process_at t p).steps adv.conflict a (process_at u p) (hand_at e u p) → HasStepped (process_at u p).phase (process_at u p).steps
+        moved_on None g = has_stepped (process_at u p).phase (process_at u p).steps (let k = g.1 in omega arith)
+        moved_on (Some a) g = subst (λ (f : table.Phase). HasStepped f (process_at u p).steps) (sym g.0) tt
 
         over : (a : Option (Answer K)) → z.answer ≡ a → Goes in_hand.0 (process_at t p).steps adv.conflict a (process_at u p) (hand_at e u p)
             → (k : Conflict) → stopped_by (process_at u p).phase ≡ Some k → (v : ℕ) → whose j p ≡ Some v → Justified (entry p (made z) ∷ j) v k
@@ -469,6 +476,13 @@ module _ {K B : Type 0} (e : K) (number : B → ℕ → ℕ) (moved : B → ℕ 
     unstopped Commit k h = none_some h
     unstopped Withdraw k h = none_some h
 
+    unextended : (q : Request K) → HasStepped (placed_process {K = K} (process_at t p) q).phase (placed_process {K = K} (process_at t p) q).steps
+    unextended Begin = tt
+    unextended (Read x) = tt
+    unextended (Write x v) = tt
+    unextended Commit = tt
+    unextended Withdraw = tt
+
     pub course_place : (q : Request K) → (place_call e t p q).reply ≡ Ok tt → Course e P start b number' (place_call e t p q).tables (entry p (placed q) ∷ j)
     course_place q h =
         let pl = place_advances e number' t p (state start b c.events) q c.good c.view h in
@@ -480,6 +494,7 @@ module _ {K B : Type 0} (e : K) (number : B → ℕ → ℕ) (moved : B → ℕ 
           hand = inr (q, None, pl.asks, sym (ap (λ (r : Process). asked q r.steps None) pl.process ∙ sym (cond-true (eqb p p) (asked q 0 None) (desk j p) (eq-eqb p p refl))));
           begun = λ l. has_begun q pl.due;
           stopped = λ k s v w. absurd (unstopped q k (ap (λ (r : Process). stopped_by r.phase) (sym pl.process) ∙ s));
+          stepped = subst (λ (r : Process). HasStepped r.phase r.steps) (sym pl.process) (unextended q);
         } in
         let desks' : (n : ℕ) → Desked (process_at u n) (hand_at e u n) (entry p (placed q) ∷ j) n = λ n. elim (cases_eq p n) [
           | inl d ↦ subst (λ (x : ℕ). Desked (process_at u x) (hand_at e u x) (entry p (placed q) ∷ j) x) d mine
@@ -592,7 +607,7 @@ module _ {K : Type 0} (e : K) (number : ℕ → ℕ) (contents : List K) (n : �
         watch = fresh_watch;
         desks = λ p.
             subst (λ (r : Process). Desked r (hand_at e (fresh_tables e contents n) p) [] p) (sym (processes p))
-            (record { hand = inl (refl, refl); begun = λ l. absurd (true_false (sym l)); stopped = λ k s v w. absurd (none_some s) });
+            (record { hand = inl (refl, refl); begun = λ l. absurd (true_false (sym l)); stopped = λ k s v w. absurd (none_some s); stepped = tt });
         prompt = tt;
       }
 

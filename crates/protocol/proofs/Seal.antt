@@ -111,7 +111,7 @@ module _ {K : Type 0} (P : ℕ) (opening : ℕ → K) (s : State K) (h : Sequenc
         same_seal a b e = cc
 
   module _ (p : ℕ) (g : May P s (finish p)) where
-    -- what p does not hold it leaves-f
+    -- what p does not hold it leaves
     leaves_f : (x : ℕ) → ((v : K) → s.held x ≡ by p v → ⊥) → (k : ℕ)
         → alone opening (put h.script (h.place p) (h.operations p)) k x ≡ alone opening h.script k x
     leaves_f x n k = elsewhere opening h.script (h.place p) (h.operations p) (i.unsealed p g.0) x (i.spared p x (inr g.0) n) k

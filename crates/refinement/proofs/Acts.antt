@@ -107,6 +107,28 @@ pub data Act {K : Type 0} (s : State K) (p : ℕ) : Request K → ℕ → Option
   withdrawing_first : {n : ℕ} {o' : Option Conflict} {z : Stepped K} {es : List (Event K)} → n ≡ 0
       → Block (next s (fail p withdrawn)) p Withdraw n None z es o' → Act s p Withdraw n None z (es ++ fail p withdrawn ∷ []) o'
 
+-- an extension under way has made a step: the look of its read or write
+abbrev pub HasStepped : Phase → ℕ → Type 0
+HasStepped Idle n = Unit {0}
+HasStepped (Beginning next least) n = Unit {0}
+HasStepped (Reading x) n = Unit {0}
+HasStepped (Writing x) n = Unit {0}
+HasStepped (Extending x to next a) n = 0 < n
+HasStepped (Certifying next) n = Unit {0}
+HasStepped (Storing next) n = Unit {0}
+HasStepped (Freeing next e) n = Unit {0}
+
+-- it holds of a request that has made a step, in whatever phase
+pub has_stepped : (f : Phase) (n : ℕ) → 0 < n → HasStepped f n
+has_stepped Idle n l = tt
+has_stepped (Beginning next least) n l = tt
+has_stepped (Reading x) n l = tt
+has_stepped (Writing x) n l = tt
+has_stepped (Extending x to next a) n l = l
+has_stepped (Certifying next) n l = tt
+has_stepped (Storing next) n l = tt
+has_stepped (Freeing next x) n l = tt
+
 -- how the record of a process stands after a step of its request: the request goes on, or it is answered
 abbrev pub Goes : {K : Type 0} → Request K → ℕ → Option Conflict → Option (Answer K) → Process → K → Type 0
 Goes r n o None q h = Asks h q.phase r × (q.steps ≡ n + 1) × (stopped_by q.phase ≡ o)
@@ -118,7 +140,7 @@ pub record Advance {K : Type 0} (e : K) (P : ℕ) (number : ℕ → ℕ) (t u : 
   pub shown : Shown e P number u s events
   pub live : (process_at t p).live ≡ true
   pub conflict : Option Conflict
-  pub act : (r : Request K) → Asks (hand_at e t p) (process_at t p).phase r
+  pub act : HasStepped (process_at t p).phase (process_at t p).steps → (r : Request K) → Asks (hand_at e t p) (process_at t p).phase r
       → Act s p r (process_at t p).steps (stopped_by (process_at t p).phase) z events conflict
   pub goes : (r : Request K) → Asks (hand_at e t p) (process_at t p).phase r
       → Goes r (process_at t p).steps conflict z.answer (process_at u p) (hand_at e u p)

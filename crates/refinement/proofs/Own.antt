@@ -40,7 +40,7 @@ PhaseOwn P N r rs ws (Reading x) =
     (x < N) × ((is_some (value_of ws x) || room rs r.reads 32 x) ≡ true) × (r.steps ≡ 0)
 PhaseOwn P N r rs ws (Writing x) = (x < N) × (room ws r.writes 16 x ≡ true) × (r.steps ≡ 0)
 PhaseOwn P N r rs ws (Extending x to next a) =
-    (x < N) × (to ≤ 2 ^ 40) × (next < r.reads) × AccessFits r rs x a × (r.steps + (r.reads - next) + r.writes ≤ 49) × (0 < r.steps)
+    (x < N) × (to ≤ 2 ^ 40) × (next < r.reads) × AccessFits r rs x a × (r.steps + (r.reads - next) + r.writes ≤ 49)
 PhaseOwn P N r rs ws (Certifying next) = (next ≤ r.reads) × (r.steps + (r.reads - next) + 1 + r.writes ≤ 49)
 PhaseOwn P N r rs ws (Storing next) = (next < r.writes) × (r.steps + (r.writes - next) ≤ 49)
 PhaseOwn P N r rs ws (Freeing next e) =

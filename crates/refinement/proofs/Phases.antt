@@ -75,7 +75,7 @@ module _ {K : Type 0} (e : K) (t : Tables K) (p : ℕ) (g : Good e t) (l : p < l
       cond_both (current (process_at t p) o.stamp) _ _ (λ (z : Outcome _ K). Good e z.tables)
       (λ _. joined_good e u p gu l x o.stamp (max (process_at t p).clock o.stamp) (value_of (read_set t p) x) refl hx st (omega arith) few)
       (λ q. let some : 0 < (process_at t p).reads = not_current (process_at t p).reads (leb o.stamp (process_at t p).clock) q in
-      advances e u p gu l (Extending x o.stamp 0 access.Read) (hx, st, some, free, omega arith, omega arith))
+      advances e u p gu l (Extending x o.stamp 0 access.Read) (hx, st, some, free, omega arith))
     where
       not_current : (n : ℕ) (b : Bool) → (b || eqb n 0) ≡ false → 0 < n
       not_current n b q = grind (arith, nat_tests)
@@ -102,7 +102,7 @@ module _ {K : Type 0} (e : K) (t : Tables K) (p : ℕ) (g : Good e t) (l : p < l
       (λ _. holds e t p g l x o (completed (write_joined (process_at t p)) (max (process_at t p).clock o.stamp)) hx ho few none refl refl (omega arith) refl)
       (λ q. let some : 0 < (process_at t p).reads = not_current (process_at t p).reads (leb o.stamp (process_at t p).clock) q in
       holds e t p g l x o (advanced (write_joined (process_at t p)) (Extending x o.stamp 0 access.Write)) hx ho few none refl refl own.clock
-      (hx, st, some, tt, omega arith, omega arith))
+      (hx, st, some, tt, omega arith))
     where
       not_current : (n : ℕ) (b : Bool) → (b || eqb n 0) ≡ false → 0 < n
       not_current n b q = grind (arith, nat_tests)
@@ -135,7 +135,7 @@ module _ {K : Type 0} (e : K) (t : Tables K) (p : ℕ) (g : Good e t) (l : p < l
       (cond_both (eqb (next + 1) (process_at t p).reads) _ _ (λ (z : Outcome _ K). Good e z.tables)
       (λ _. finishes a h.0 h.1 h.3)
       (λ d. let n = eqb-false (next + 1) (process_at t p).reads d in
-      advances e t p g l (Extending x to (next + 1) a) (h.0, h.1, omega arith, h.3, omega arith, omega arith)))
+      advances e t p g l (Extending x to (next + 1) a) (h.0, h.1, omega arith, h.3, omega arith)))
     where
       finishes : (a : Access) → x < length t.objects → to ≤ 2 ^ 40 → AccessFits (process_at t p) (read_set t p) x a → Good e (extended e t p x to a).tables
       finishes access.Read hx ht h =

@@ -52,7 +52,7 @@ use Rattle.refinement.proofs.Deciding.{cause_of, certify_first, withdraw_first, 
 use Rattle.refinement.proofs.Writing.{seal_shown, held_now, held_later, held_waiting, rewrite_held, rewrite_shown}
 use Rattle.refinement.proofs.Releasing.{store_on, store_last, free_on, free_last}
 use Rattle.refinement.proofs.Acts.{Asks, conflict_of, stopped_by, Block, Act, Advance}
-use Rattle.refinement.proofs.Made.{Made, on, done, over, MayCommit, alone, first}
+use Rattle.refinement.proofs.Made.{Made, on_after, on, done_after, done, over, MayCommit, alone, first}
 
 -- the phases in which a conflict is found; the request is no begin
 abbrev Looking : Phase → Type 0
@@ -310,14 +310,13 @@ module _ {K : Type 0} (e : K) (number : ℕ → ℕ) (t : Tables K) (s : State K
           (λ j b. rw b (Block.reads_extended x _ _ _ _))
   extends x to i access.Write q within room =
       let a = live_at e number t s p g v l (Extending x to i access.Write) live q in
-      let some = (own_phase (Extending x to i access.Write) q).5 in
       looks (Extending x to i access.Write) (read_at t p i).object (Some (read_at t p i).value) tt (ap gone q) (inl a.phase) (why_changed (read_at t p i).object (read_at t p i).value (pair_seen i within a.seen))
       (λ clear fresh.
       cond_both (eqb (i + 1) (process_at t p).reads) _ _ (Here (Extending x to i access.Write))
-      (λ c. done e number t s p g l (Extending x to i access.Write) t (completed (process_at t p) to) Nothing (answer_is.Written ((process_at t p).steps + 1)) _ (frame_none t p) refl refl
-      (write_extended e number t s p g v l live x to i q (eqb-true (i + 1) (process_at t p).reads c) clear fresh) (λ k d. rw d (Block.writes_extended x _ _ _ some)))
-      (λ c. on e number t s p g l (Extending x to i access.Write) t (advanced (process_at t p) (Extending x to (i + 1) access.Write)) Nothing _ None (frame_none t p) refl refl
-      (extending_shown e number t s p g v l live x to i access.Write q within clear fresh) (λ k d. (rw d (Block.extends_write x _ _ _ some), d))))
+      (λ c. done_after e number t s p g l (Extending x to i access.Write) t (completed (process_at t p) to) Nothing (answer_is.Written ((process_at t p).steps + 1)) _ (frame_none t p) refl refl
+      (write_extended e number t s p g v l live x to i q (eqb-true (i + 1) (process_at t p).reads c) clear fresh) (λ b k d. rw d (Block.writes_extended x _ _ _ b)))
+      (λ c. on_after e number t s p g l (Extending x to i access.Write) t (advanced (process_at t p) (Extending x to (i + 1) access.Write)) Nothing _ None (frame_none t p) refl refl
+      (extending_shown e number t s p g v l live x to i access.Write q within clear fresh) (λ b k d. rw d (Block.extends_write x _ _ _ b)) (λ k d. d)))
 
   -- certification has begun
   certifies : (i : ℕ) → (process_at t p).phase ≡ Certifying i → Certifies (process_at t p) (read_set t p) i (row s p) → i < (process_at t p).reads → Here (Certifying i) (after_look e t p (Certifying i) (pair_looked e t p i))
@@ -422,7 +421,7 @@ module _ {K B : Type 0} (e : K) (number : B → ℕ → ℕ) (moved : B → ℕ 
       let s1 = next s (certify p) in
       let m = commits s1 i before.view q (begun (live_at e (number b) t s1 p g before.view l (Certifying i) live q)) in
       first e (length t.processes) (number (commit_bank number moved t b p i)) t _ s p (Certifying i) _ q live (certify p) before.lawful m
-      (λ r c. rw c (Act.certifying_first a.0 (m.block ask.Commit refl)))
+      (λ r c. rw c (Act.certifying_first a.0 (m.block tt ask.Commit refl)))
     where
       begun : NotBegun (process_at t p) (read_set t p) i (row (next s (certify p)) p) ⊎ Certifies (process_at t p) (read_set t p) i (row (next s (certify p)) p) → Certifies (process_at t p) (read_set t p) i (row (next s (certify p)) p)
       begun (inr c) = c
@@ -440,7 +439,7 @@ module _ {K B : Type 0} (e : K) (number : B → ℕ → ℕ) (moved : B → ℕ 
       let s1 = next s (fail p withdrawn) in
       let m = frees e (number b) t s1 p g before.view l live i Withdraw q (put_same s.phase p aborting p refl) (facts (Freeing i Withdraw) q) in
       first e (length t.processes) (number b) t _ s p (Freeing i Withdraw) _ q live (fail p withdrawn) before.lawful m
-      (λ r c. rw c (Act.withdrawing_first a.0 (m.block ask.Withdraw refl)))
+      (λ r c. rw c (Act.withdrawing_first a.0 (m.block tt ask.Withdraw refl)))
 
   -- begin
   begins : (s : State K) (n least : ℕ) → View e (number b) t s → (process_at t p).phase ≡ Beginning n least → Ours s b (Beginning n least) (begin_step (number b) t p n least)

@@ -6,7 +6,8 @@ use Rattle.journal.specs.Runs.{world, line, journal, after_call, Ran}
 use Rattle.journal.specs.Trust.{AllTrusted}
 use Rattle.journal.specs.Traces.{trace_on}
 use Rattle.journal.specs.Traces.Reached.{later}
-use Rattle.journal.proofs.Courses.{law_holds, all_trusted, fresh_trusted}
+use Rattle.journal.proofs.Courses.{law_holds, still_trusted}
+use Rattle.journal.proofs.Trusting.{fresh_trusted}
 use Rattle.journal.proofs.Steps.{line_more, calls_more, lines_all, calls_all, same_world}
 use Rattle.journal.proofs.runs.execute.Goals as goal
 
@@ -53,6 +54,6 @@ returns g c =
     record {
       ran = ran;
       lawful = λ P start j r. law_holds empty number moved g.met.B.Bank.ranged g.met.B.Bank.rises P start w (trace_on j lines) (later cs lines w ran r);
-      trusted = λ f. subst AllTrusted (sym written) (fresh_trusted empty number moved g.met.B.Bank.ranged g.met.B.Bank.rises w0 cs f);
-      still_trusted = λ P start j r. subst AllTrusted (sym written) (all_trusted empty number moved g.met.B.Bank.ranged g.met.B.Bank.rises P start w0 j cs r);
+      trusted = λ f. subst AllTrusted (sym written) (fresh_trusted empty number moved g.met.B.Bank.ranged w0 cs f);
+      still_trusted = λ P start j r. subst AllTrusted (sym written) (still_trusted empty number moved g.met.B.Bank.ranged g.met.B.Bank.rises P start w0 j cs r);
     }
