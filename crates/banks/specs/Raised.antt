@@ -40,6 +40,9 @@ raised_outside xs p u o =
       | inl e ↦ simp e (set_past xs p (max (slice_index xs p) u) o)
     ]
 
+pub raised_far : (xs : List ℕ) (p u : ℕ) → ranged xs ≡ true → 63 < p → raised xs p u ≡ xs
+raised_far xs p u r h = let l = long xs r in raised_outside xs p u (omega arith)
+
 pub raised_beyond : (xs : List ℕ) (p u : ℕ) → 2 ^ 40 < u → raised xs p u ≡ xs
 raised_beyond xs p u o = let e : leb u (2 ^ 40) ≡ false = lt-leb u (2 ^ 40) o in simp e
 

@@ -3,7 +3,7 @@ ghost use Rattle.std.specs.Prelude.{◌≡◌, ℕ, ◌^◌, ◌<◌, MatchOptio
 ghost use Rattle.banks.specs.Banks.{common_number, common_moved, own_number, own_moved, same_common, same_own};
 ghost use Rattle.std.proofs.Common.{rules, arith};
 ghost use Rattle.std.proofs.lemmas.Bool.Decides.{nat_tests};
-ghost use Rattle.banks.specs.Raised.{low, none, raised_rises, raised_bounded, long, raised_outside, raised_beyond};
+ghost use Rattle.banks.specs.Raised.{low, none, raised_rises, raised_bounded, raised_far, raised_beyond};
 
 use super::bank::{Bank, LARGEST};
 use super::state::{CommonBank, OwnBank, SilentBank};
@@ -58,13 +58,13 @@ impl Bank for CommonBank {
 
     ghost moved = { common_moved };
 
-    ghost ranged = { first_of (Prim.search rules, Prim.grind (arith, Self.row.coded.inj)) };
+    ghost ranged = { Prim.search rules };
 
-    ghost absent = { first_of (Prim.search rules, Prim.grind (arith, Self.row.coded.inj)) };
+    ghost absent = { Prim.search rules };
 
-    ghost rises = { first_of (Prim.search rules, Prim.grind (arith, Self.row.coded.inj)) };
+    ghost rises = { Prim.search rules };
 
-    ghost bounded = { first_of (Prim.search rules, Prim.grind (arith, Self.row.coded.inj)) };
+    ghost bounded = { Prim.search rules };
 
     ghost outside = { λ b p u h. same_common _ _ (Prim.grind (arith, nat_tests)) };
 
@@ -94,7 +94,7 @@ impl Bank for OwnBank {
 
     ghost bounded = { λ b p u q. raised_bounded b.numbers p u q };
 
-    ghost outside = { λ b p u h. let l = long b.numbers b.lawful in same_own _ _ (raised_outside b.numbers p u (omega arith)) };
+    ghost outside = { λ b p u h. same_own _ _ (raised_far b.numbers p u b.lawful h) };
 
     ghost beyond = { λ b p u h. same_own _ _ (raised_beyond b.numbers p u h) };
 
@@ -102,6 +102,7 @@ impl Bank for OwnBank {
         if p <= 63 { self.numbers[p] } else { 0 }
     }
 
+    #[tactic(auto, using(crate::proofs::Moves::moves))]
     fn move_to(&mut self, p: usize, u: u64) {
         if p <= 63 && u <= LARGEST {
             let old = self.numbers[p];
