@@ -5,7 +5,6 @@ use anyhow::anyhow;
 use blocks::{Entry, write_block};
 use session::Session;
 use std::alloc::Global;
-use std::process::Abort;
 
 const BLOCK_LEN: usize = 512;
 
@@ -66,10 +65,26 @@ fn printed(heap: Global, entries: &[Entry]) -> anyhow::Result<String> {
     transcript(heap, input.as_slice())
 }
 
-// Checks a text, first line by line, so that a failure names the line.
-fn check_text(rt: &impl Abort, text: &str, expected: &str) {
-    for (line, wanted) in text.lines().zip(expected.lines()) {
-        assert_eq!(rt; line, wanted);
+// A line that is not as expected, and what was; where all lines are, the whole texts.
+#[derive(Clone, Copy, Debug)]
+struct Differs<'a> {
+    found: &'a str,
+    expected: &'a str,
+}
+
+// Are two texts equal?
+fn same<'a>(found: &'a str, expected: &'a str) -> Result<(), Differs<'a>> {
+    if found == expected {
+        Ok(())
+    } else {
+        Err(Differs { found, expected })
     }
-    assert_eq!(rt; text, expected);
+}
+
+// Checks a text, first line by line, so that a failure names the line.
+fn check_text<'a>(text: &'a str, expected: &'a str) -> Result<(), Differs<'a>> {
+    for (line, wanted) in text.lines().zip(expected.lines()) {
+        same(line, wanted)?;
+    }
+    same(text, expected)
 }

@@ -33,7 +33,7 @@ fn held_objects(rt: HostRuntime) -> Result<(), Fail> {
         39 1 read 7 1\n\
         41 1 read 0 1\n\
         45 1 committed 3\n";
-    check_text(&rt, printed(rt.alloc(), &entries)?.as_str(), expected);
+    check_text(printed(rt.alloc(), &entries)?.as_str(), expected)?;
     Ok(())
 }
 
@@ -79,7 +79,7 @@ fn extensions_that_fail(rt: HostRuntime) -> Result<(), Fail> {
         59 1 read 6 1\n\
         61 1 read 9 1\n\
         63 1 read 4 1\n";
-    check_text(&rt, printed(rt.alloc(), &entries)?.as_str(), expected);
+    check_text(printed(rt.alloc(), &entries)?.as_str(), expected)?;
     Ok(())
 }
 
@@ -122,6 +122,6 @@ fn certification(rt: HostRuntime) -> Result<(), Fail> {
         54 1 begun 2\n\
         56 1 read 0 1\n\
         58 1 withdrawn 1\n";
-    check_text(&rt, printed(rt.alloc(), &entries)?.as_str(), expected);
+    check_text(printed(rt.alloc(), &entries)?.as_str(), expected)?;
     Ok(())
 }

@@ -13,19 +13,19 @@ use std::test::Fail;
 fn inputs_of_several_blocks(rt: HostRuntime) -> Result<(), Fail> {
     let heap = rt.alloc();
     let mut input = Vec::new(heap);
-    check_text(&rt, transcript(heap, input.as_slice())?.as_str(), "");
+    check_text(transcript(heap, input.as_slice())?.as_str(), "")?;
     add_block(&mut input, 0, &entries![B 0; S 0; S 0; W 0 1 7; S 0;])?;
     add_block(&mut input, 1, &entries![C 0; S 0; S 0;])?;
     let whole = "3 0 begun 2\n\
         5 0 written 1\n\
         8 0 committed 2\n";
-    check_text(&rt, transcript(heap, input.as_slice())?.as_str(), whole);
+    check_text(transcript(heap, input.as_slice())?.as_str(), whole)?;
     input.extend_from_slice(&[0u8; 100])?;
     let short = "3 0 begun 2\n\
         5 0 written 1\n\
         8 0 committed 2\n\
         block 2 11\n";
-    check_text(&rt, transcript(heap, input.as_slice())?.as_str(), short);
+    check_text(transcript(heap, input.as_slice())?.as_str(), short)?;
     input.truncate(1024);
     add_block(&mut input, 2, &entries![S 0;])?;
     if let Some(byte) = input.get_mut(520) {
@@ -34,13 +34,9 @@ fn inputs_of_several_blocks(rt: HostRuntime) -> Result<(), Fail> {
     let damaged = "3 0 begun 2\n\
         5 0 written 1\n\
         block 1 12\n";
-    check_text(&rt, transcript(heap, input.as_slice())?.as_str(), damaged);
+    check_text(transcript(heap, input.as_slice())?.as_str(), damaged)?;
     input.truncate(511);
-    check_text(
-        &rt,
-        transcript(heap, input.as_slice())?.as_str(),
-        "block 0 11\n",
-    );
+    check_text(transcript(heap, input.as_slice())?.as_str(), "block 0 11\n")?;
     Ok(())
 }
 
@@ -84,6 +80,6 @@ fn refused_blocks(rt: HostRuntime) -> Result<(), Fail> {
         block 1 15\n\
         block 1 15\n\
         8 0 committed 2\n";
-    check_text(&rt, session.text.as_str(), expected);
+    check_text(session.text.as_str(), expected)?;
     Ok(())
 }

@@ -37,7 +37,7 @@ fn pending_and_committed(rt: HostRuntime) -> Result<(), Fail> {
         41 0 written 1\n\
         44 0 committed 2\n\
         46 1 aborted changed 2 1\n";
-    check_text(&rt, printed(rt.alloc(), &entries)?.as_str(), expected);
+    check_text(printed(rt.alloc(), &entries)?.as_str(), expected)?;
     Ok(())
 }
 
@@ -73,7 +73,7 @@ fn extensions_that_pass(rt: HostRuntime) -> Result<(), Fail> {
         46 0 read 9 1\n\
         49 0 read 11 2\n\
         52 0 committed 2\n";
-    check_text(&rt, printed(rt.alloc(), &entries)?.as_str(), expected);
+    check_text(printed(rt.alloc(), &entries)?.as_str(), expected)?;
     Ok(())
 }
 
@@ -108,7 +108,7 @@ fn withdrawals(rt: HostRuntime) -> Result<(), Fail> {
         41 0 begun 2\n\
         43 0 read 0 1\n\
         45 0 withdrawn 1\n";
-    check_text(&rt, printed(rt.alloc(), &entries)?.as_str(), expected);
+    check_text(printed(rt.alloc(), &entries)?.as_str(), expected)?;
     Ok(())
 }
 
@@ -148,6 +148,6 @@ fn largest_stamps(rt: HostRuntime) -> Result<(), Fail> {
         48 1 committed 1\n";
     add_block(&mut input, 0, &entries)?;
     assert!(rt; session.carry_out(heap, 0, input.as_slice())?);
-    check_text(&rt, session.text.as_str(), expected);
+    check_text(session.text.as_str(), expected)?;
     Ok(())
 }

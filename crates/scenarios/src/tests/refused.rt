@@ -45,6 +45,6 @@ fn refusals(rt: HostRuntime) -> Result<(), Fail> {
         36 1 refused 8\n\
         39 1 begun 2\n\
         41 1 read 7 1\n";
-    check_text(&rt, printed(rt.alloc(), &entries)?.as_str(), expected);
+    check_text(printed(rt.alloc(), &entries)?.as_str(), expected)?;
     Ok(())
 }
