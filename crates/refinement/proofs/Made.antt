@@ -76,6 +76,7 @@ module _ {K : Type 0} (e : K) (number : ℕ → ℕ) (t : Tables K) (s : State K
         frame = frame_both t w (with_process w p r) p fr (frame_process w p r);
       }
 
+  -- the same, where the block does not need that an extension has made a step
   pub done : (w : Tables K) (r : Process) (effect : Effect) (a : Answer K) (es : List (Event K)) → Frame t w p → r.phase ≡ Idle → r.steps ≡ 0
       → Shown e (length t.processes) number (with_process w p r) s es
       → ((k : Request K) → Asks (hand_at e t p) f k → Block s p k (process_at t p).steps (stopped_by f) (answering effect a) es None)
