@@ -75,8 +75,8 @@ impl Bank for CommonBank {
     }
 
     fn move_to(&mut self, p: usize, u: u64) {
-        if p <= 63 && u <= LARGEST && u > self.clock {
-            self.clock = u;
+        if p <= 63 && u <= LARGEST {
+            self.clock = self.clock.max(u);
         }
     }
 }
@@ -99,16 +99,13 @@ impl Bank for OwnBank {
     ghost beyond = { λ b p u h. same_own _ _ (raised_beyond b.numbers p u h) };
 
     fn read(&self, p: usize) -> u64 {
-        if p <= 63 { self.numbers[p] } else { 0 }
+        self.numbers.get(p).copied().unwrap_or(0)
     }
 
     #[tactic(auto, using(crate::proofs::Moves::moves))]
     fn move_to(&mut self, p: usize, u: u64) {
         if p <= 63 && u <= LARGEST {
-            let old = self.numbers[p];
-            if u > old {
-                self.numbers[p] = u;
-            }
+            self.numbers[p] = self.numbers[p].max(u);
         }
     }
 }

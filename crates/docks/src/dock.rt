@@ -4,13 +4,13 @@ ghost use Rattle.docks.specs.declared.dock.Dock.TheVariants.{EmptyBay};
 use tables::Kind;
 
 // A bicycle that is out, and the minute at which its hire started.
-#[derive(Clone, Copy)]
+#[derive(Clone, Copy, Debug, PartialEq, Eq)]
 pub struct Hire {
     pub bicycle: u32,
     pub start: u32,
 }
 
-#[derive(Clone, Copy)]
+#[derive(Clone, Copy, Debug, PartialEq, Eq)]
 pub enum Dock {
     EmptyBay,
     Bay { bicycle: u32 },
@@ -26,9 +26,5 @@ impl Kind for Dock {
 
     fn blank() -> Dock {
         Dock::EmptyBay
-    }
-
-    fn copied(&self) -> Dock {
-        *self
     }
 }

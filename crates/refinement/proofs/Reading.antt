@@ -21,6 +21,7 @@ use Rattle.protocol.specs.Protocol.Event.{look, extend, answer, own}
 use Rattle.protocol.proofs.Updates.{put_same}
 use Rattle.refinement.proofs.Frames.{Frame, frame_hand}
 use Rattle.refinement.proofs.Own.{Good}
+use Rattle.refinement.proofs.Sets.{value_first}
 use Rattle.refinement.proofs.Windows.{window, window_push}
 use Rattle.refinement.proofs.Changes.{sizes_facts}
 use Rattle.refinement.proofs.Rows.{Row, row}
@@ -30,10 +31,10 @@ use Rattle.refinement.proofs.View.{gone, pending_of, SeenAs, Rests, LiveAs, RowA
 
 -- look-ups in a set with one pair more
 pub value_push : {V : Type 0} (xs : List (Slot V)) (x y : ℕ) (u : V) → value_of xs x ≡ None → value_of (xs ++ pair x u ∷ []) y ≡ cond (eqb x y) (Some u) (value_of xs y)
-value_push [] x y u h = refl
+value_push [] x y u h = value_first (pair x u) [] y
 value_push (s ∷ ss) x y u h =
     elim (cases_Bool (eqb s.object x)) [
-      | inl a ↦ absurd (let z : ◌≡◌ {A = ℕ} 0 1 = some_none s.value (value_of ss x) (eqb s.object x) a h in omega arith)
+      | inl a ↦ absurd (let z : ◌≡◌ {A = ℕ} 0 1 = some_none s.value (value_of ss x) (eqb s.object x) a (sym (value_first s ss x) ∙ h) in omega arith)
       | inr a ↦
           (let h' : value_of ss x ≡ None = simp a at h in
           elim (cases_Bool (eqb s.object y)) [

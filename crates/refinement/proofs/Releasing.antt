@@ -18,7 +18,7 @@ use Rattle.protocol.proofs.Updates.{put_same, put_other, put_is}
 use Rattle.protocol.proofs.Invariant.{differ}
 use Rattle.refinement.proofs.Frames.{Frame, frame_process, frame_object, frame_ended, frame_both}
 use Rattle.refinement.proofs.Own.{Good}
-use Rattle.refinement.proofs.Sets.{names, apart, among, value_among}
+use Rattle.refinement.proofs.Sets.{names, apart, among, value_first, value_among}
 use Rattle.refinement.proofs.Windows.{window, window_length}
 use Rattle.refinement.proofs.Changes.{sizes_facts, sound_of}
 use Rattle.refinement.proofs.Rows.{Row, row, row_others}
@@ -76,6 +76,7 @@ module _ {K : Type 0} (e : K) (number : ℕ → ℕ) (t : Tables K) (s : State K
   here : value_of (pending_of t p) the_object ≡ Some the_content
   here =
       ap (λ (k : List (Slot K)). value_of k the_object) pending_is
+      ∙ value_first (write_at e t p i) (drop (i + 1) (write_set t p)) the_object
       ∙ ap (λ (b : Bool). cond b (Some the_content) (value_of (drop (i + 1) (write_set t p)) the_object)) (eq-eqb the_object the_object refl)
 
   gone_now : value_of (drop (i + 1) (write_set t p)) the_object ≡ None
@@ -87,6 +88,7 @@ module _ {K : Type 0} (e : K) (number : ℕ → ℕ) (t : Tables K) (s : State K
   away : (y : ℕ) → (the_object ≡ y → ⊥) → value_of (drop (i + 1) (write_set t p)) y ≡ value_of (pending_of t p) y
   away y n =
       sym (ap (λ (k : List (Slot K)). value_of k y) pending_is
+      ∙ value_first (write_at e t p i) (drop (i + 1) (write_set t p)) y
       ∙ ap (λ (b : Bool). cond b (Some the_content) (value_of (drop (i + 1) (write_set t p)) y)) (ne_eqb the_object y n))
 
   holder_p : (object_at e t the_object).holder ≡ Some p

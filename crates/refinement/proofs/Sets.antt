@@ -1,5 +1,5 @@
 -- The objects that a set's pairs name: below a bound, none twice; one pair more, and one pair's value replaced.
-use Rattle.std.proofs.Common.{◌≡◌, ℕ, suc, ◌+◌, ◌-◌, ◌^◌, ◌<◌, ◌≤◌, Bool, true, false, not, ◌&&◌, ◌||◌, eqb, ltb, leb, List, [], ◌∷◌, ◌++◌, map, length, get_or, set, is_some, Some, sym, refl, ap, ◌∙◌, inl, inr, arith}
+use Rattle.std.proofs.Common.{◌≡◌, ℕ, suc, ◌+◌, ◌-◌, ◌^◌, ◌<◌, ◌≤◌, Bool, true, false, cond, not, ◌&&◌, ◌||◌, eqb, ltb, leb, List, [], ◌∷◌, ◌++◌, map, length, get_or, set, is_some, Some, sym, refl, ap, ◌∙◌, inl, inr, arith}
 use Rattle.std.proofs.lemmas.Bool.{cases_Bool, and_parts, and_from, ltb-true, lt-ltb, eqb-true, or_parts, or_from}
 use Rattle.std.proofs.lemmas.Bool.Decides.{nat_tests}
 use Rattle.std.proofs.lemmas.List.{map_push, map-set, set-get_or}
@@ -46,6 +46,10 @@ named_of_below e os n (s ∷ ss) ok h =
     and_from (named_ok e os n s.object) (all_named e os n ss)
     (named_from e os n s.object ok (ltb-true s.object (length os) a.0))
     (named_of_below e os n ss ok a.1)
+
+-- a look-up in a set with a first pair
+pub value_first : {V : Type 0} (s : Slot V) (ss : List (Slot V)) (x : ℕ) → value_of (s ∷ ss) x ≡ cond (eqb s.object x) (Some s.value) (value_of ss x)
+value_first s ss x = elim (cases_Bool (eqb s.object x)) [ inl e ↦ simp e | inr e ↦ simp e ]
 
 -- an object has a value exactly where it is named
 pub value_among : {V : Type 0} (xs : List (Slot V)) (x : ℕ) → is_some (value_of xs x) ≡ among x (names xs)

@@ -2,8 +2,8 @@
 use Rattle.std.specs.Prelude.{◌≡◌, ℕ, ◌*◌, true, false, List, map, length, replicate, None, Ok, Err, Result}
 use Rattle.tables.specs.Lookup.{pair}
 use Rattle.tables.specs.Tables.{Tables, tables_of, idle_process, numbers_ok}
-use Rattle.tables.specs.declared.memory.FreshError.{FreshError}
-use Rattle.tables.specs.declared.memory.FreshError.TheVariants.{Refused, NoMemory}
+use Rattle.tables.specs.declared.fresh_error.FreshError.{FreshError}
+use Rattle.tables.specs.declared.fresh_error.FreshError.TheVariants.{Refused, NoMemory}
 use Rattle.tables.specs.declared.memory.Memory.{Memory}
 use Rattle.tables.specs.declared.memory.Object.{Object}
 use Rattle.tables.specs.declared.refusal.Refusal.TheVariants.{Sizes}

@@ -1,5 +1,7 @@
 -- Look-ups in a stretch of places.
-use Rattle.std.specs.Prelude.{ℕ, ◌+◌, cond, List, [], ◌∷◌, Some, None, Option, ◌==◌}
+use Rattle.std.specs.Prelude.{ℕ, List, Option, ◌==◌}
+use Rattle.std.specs.List.{find, position_from}
+use Rattle.std.specs.Option.{option_map}
 use Rattle.tables.specs.declared.map.Slot.{Slot}
 
 -- a pair of an object and a value
@@ -8,10 +10,8 @@ pair x v = record { object = x; value = v }
 
 -- the value of an object
 abbrev pub value_of : {V : Type 0} → List (Slot V) → ℕ → Option V
-value_of [] x = None
-value_of (s ∷ ss) x = cond (s.object == x) (Some s.value) (value_of ss x)
+value_of ss x = option_map (λ s. s.value) (find (λ s. s.object == x) ss)
 
 -- the place of an object's pair, the first place being n
 abbrev pub place_of : {V : Type 0} → List (Slot V) → ℕ → ℕ → Option ℕ
-place_of [] x n = None
-place_of (s ∷ ss) x n = cond (s.object == x) (Some n) (place_of ss x (n + 1))
+place_of ss x n = position_from (λ s. s.object == x) n ss

@@ -11,7 +11,10 @@ pub trait Kind: Copy + Drop {
 
     // A copy is the whole content.
     fn copied(&self) -> Self
-        ensures { result ≡ self.now };
+        ensures { result ≡ self.now }
+    {
+        *self
+    }
 }
 
 // 32-bit numbers, with 0 as the blank.
@@ -20,9 +23,5 @@ impl Kind for u32 {
 
     fn blank() -> u32 {
         0
-    }
-
-    fn copied(&self) -> u32 {
-        *self
     }
 }

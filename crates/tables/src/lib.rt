@@ -3,18 +3,20 @@
 // before each call whether its tables are sound.
 #![tactic(auto)]
 
+mod fresh_error;
 mod kind;
 mod map;
 mod memory;
 mod process;
 mod refusal;
 mod reply;
+mod text;
 
+pub use fresh_error::FreshError;
 pub use kind::Kind;
 pub use map::{Map, Slot, put};
 pub use memory::{
-    FreshError, MOST_OBJECTS, MOST_PROCESSES, Memory, Object, READ_PLACES, WRITE_PLACES,
-    numbers_fit,
+    MOST_OBJECTS, MOST_PROCESSES, Memory, Object, READ_PLACES, WRITE_PLACES, numbers_fit,
 };
 pub use process::{Access, Ending, Phase, Process};
 pub use refusal::Refusal;

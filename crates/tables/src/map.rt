@@ -3,7 +3,7 @@ ghost use Rattle.std.specs.Prelude.{◌≡◌, ◌<◌, length, IfSome, vec_len,
 ghost use Rattle.tables.specs.Lookup.{value_of, place_of};
 
 // A place: an object number and its value.
-#[derive(Clone, Copy)]
+#[derive(Clone, Copy, Debug, PartialEq, Eq)]
 pub struct Slot<V> {
     pub object: usize,
     pub value: V,
@@ -20,12 +20,10 @@ impl<V: Copy> Map<'_, V> {
     pub fn get(&self, object: usize) -> Option<V>
         ensures { result ≡ value_of self.now.slots.now object }
     {
-        for slot in self.slots {
-            if slot.object == object {
-                return Some(slot.value);
-            }
-        }
-        None
+        self.slots
+            .iter()
+            .find(|slot| slot.object == object)
+            .map(|slot| slot.value)
     }
 
     // The place of an object's pair, where it has one.
@@ -33,12 +31,7 @@ impl<V: Copy> Map<'_, V> {
         ensures value { result ≡ place_of self.now.slots.now object 0 }
         ensures bound { IfSome result (λ i. i < length self.now.slots.now) }
     {
-        for (i, slot) in self.slots.iter().enumerate() {
-            if slot.object == object {
-                return Some(i);
-            }
-        }
-        None
+        self.slots.iter().position(|slot| slot.object == object)
     }
 }
 
@@ -47,7 +40,7 @@ pub fn put<V: Copy>(places: &mut Vec<Slot<V>>, at: usize, pair: Slot<V>)
     ensures items { places.new.items ≡ slice_set places.old.items at pair }
     ensures len { vec_len places.new ≡ vec_len places.old }
 {
-    if at < places.len() {
-        places[at] = pair;
+    if let Some(place) = places.get_mut(at) {
+        *place = pair;
     }
 }

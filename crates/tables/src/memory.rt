@@ -3,6 +3,7 @@ ghost use Rattle.std.specs.Prelude.{◌≡◌, ◌*◌, ◌≤◌, map, replicat
 ghost use Rattle.tables.specs.Tables.{tables_of, numbers_ok};
 ghost use Rattle.tables.specs.Fresh.{unheld, fresh_tables, Freshly};
 
+use super::fresh_error::FreshError;
 use super::kind::Kind;
 use super::map::Slot;
 use super::process::{Phase, Process};
@@ -18,7 +19,7 @@ pub const READ_PLACES: usize = 32;
 
 pub const WRITE_PLACES: usize = 16;
 
-#[derive(Clone, Copy)]
+#[derive(Clone, Copy, Debug, PartialEq, Eq)]
 pub struct Object<K> {
     pub content: K,
     // the clock value at which its content was committed
@@ -26,7 +27,8 @@ pub struct Object<K> {
     pub holder: Option<usize>,
 }
 
-// Process p has the read places 32 p to 32 p + 31, the write places 16 p to 16 p + 15, and the hand place p, which
+// The tables. They are apart, and a set is a stretch of one with its count in the record, since the rules ask for common tables of
+// places and for a test of all sizes before each call. Process p has the read places 32 p to 32 p + 31, the write places 16 p to 16 p + 15, and the hand place p, which
 // holds the content that a read last took or that a write will set.
 #[derive(Drop)]
 pub struct Memory<K> {
@@ -37,21 +39,14 @@ pub struct Memory<K> {
     pub hands: Vec<K>,
 }
 
-// Why a memory was not made.
-#[derive(Clone, Copy)]
-pub enum FreshError {
-    Refused(Refusal),
-    NoMemory,
-}
-
 // Are there that many objects and processes at most, and at least one of each?
 pub fn numbers_fit(objects: usize, processes: usize) -> bool
     ensures { result ≡ numbers_ok objects processes }
 {
-    objects >= 1 && objects <= MOST_OBJECTS && processes >= 1 && processes <= MOST_PROCESSES
+    (1..=MOST_OBJECTS).contains(&objects) && (1..=MOST_PROCESSES).contains(&processes)
 }
 
-// A table of n equal elements.
+// A table of n equal elements: a loop, since `vec![x; n]` clones x, and nothing says that a kind's clone is its copy.
 fn filled<T: Copy>(heap: Global, element: T, n: usize) -> Result<Vec<T>, AllocError>
     ensures { IfOk result (λ v. v.items ≡ replicate n element) }
 {
@@ -66,15 +61,14 @@ fn filled<T: Copy>(heap: Global, element: T, n: usize) -> Result<Vec<T>, AllocEr
 fn objects_with<K: Kind>(heap: Global, contents: &[K]) -> Result<Vec<Object<K>>, AllocError>
     ensures { IfOk result (λ v. v.items ≡ map unheld contents.now) }
 {
-    let mut objects = Vec::new(heap);
-    for content in contents {
-        objects.push(Object {
+    contents
+        .iter()
+        .map(|content| Object {
             content: content.copied(),
             stamp: 0,
             holder: None,
-        })?;
-    }
-    Ok(objects)
+        })
+        .collect(heap)
 }
 
 impl<K: Kind> Memory<K> {
@@ -91,24 +85,18 @@ impl<K: Kind> Memory<K> {
             steps: 0,
             phase: Phase::Idle,
         };
+        let seen = Slot {
+            object: 0,
+            value: 0,
+        };
+        let pending = Slot {
+            object: 0,
+            value: K::blank(),
+        };
         let objects = objects_with(heap, contents)?;
         let processes = filled(heap, idle, count)?;
-        let reads = filled(
-            heap,
-            Slot {
-                object: 0,
-                value: 0u64,
-            },
-            count * READ_PLACES,
-        )?;
-        let writes = filled(
-            heap,
-            Slot {
-                object: 0,
-                value: K::blank(),
-            },
-            count * WRITE_PLACES,
-        )?;
+        let reads = filled(heap, seen, count * READ_PLACES)?;
+        let writes = filled(heap, pending, count * WRITE_PLACES)?;
         let hands = filled(heap, K::blank(), count)?;
         Ok(Memory {
             objects,
@@ -126,9 +114,6 @@ impl<K: Kind> Memory<K> {
         if !numbers_fit(contents.len(), count) {
             return Err(FreshError::Refused(Refusal::Sizes));
         }
-        match Memory::opened(heap, contents, count) {
-            Ok(memory) => Ok(memory),
-            Err(_) => Err(FreshError::NoMemory),
-        }
+        Ok(Memory::opened(heap, contents, count)?)
     }
 }

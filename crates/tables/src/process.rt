@@ -1,22 +1,22 @@
 // The record of a process: its transaction and how far its request has come.
 use super::reply::Conflict;
 
-// How a transaction is given up.
-#[derive(Clone, Copy)]
+// How a transaction is given up. (As an `Option<Conflict>`, `None` would not say that the process withdraws.)
+#[derive(Clone, Copy, Debug, PartialEq, Eq)]
 pub enum Ending {
     Abort { conflict: Conflict },
     Withdraw,
 }
 
 // The request that a snapshot extension completes.
-#[derive(Clone, Copy)]
+#[derive(Clone, Copy, Debug, PartialEq, Eq)]
 pub enum Access {
     Read,
     Write,
 }
 
 // What the next step of the request in hand does.
-#[derive(Clone, Copy)]
+#[derive(Clone, Copy, Debug, PartialEq, Eq)]
 pub enum Phase {
     // no request is in hand
     Idle,
@@ -55,9 +55,9 @@ pub enum Phase {
     },
 }
 
-#[derive(Clone, Copy)]
+#[derive(Clone, Copy, Debug, PartialEq, Eq)]
 pub struct Process {
-    // whether a transaction is open
+    // whether a transaction is open; the clock is no part of it, since it stays when the transaction ends
     pub live: bool,
     // the transaction clock
     pub clock: u64,

@@ -1,25 +1,25 @@
-// The questions that are asked before a call; the first that is answered no refuses the call.
+// The questions that are asked before a call, with their numbers; the first that is answered no refuses the call.
 ghost use Rattle.std.specs.Prelude.{◌≡◌};
 ghost use Rattle.tables.specs.Numbers.{refusal_number};
 
 #[derive(Clone, Copy, PartialEq, Eq, Debug)]
 pub enum Refusal {
     // Do the tables have the stated sizes?
-    Sizes,
+    Sizes = 1,
     // Is there such a process?
-    Process,
+    Process = 2,
     // Is the process's record sound?
-    Record,
+    Record = 3,
     // Is no request in hand?
-    InHand,
+    InHand = 4,
     // Is a transaction open, or for a begin none?
-    Transaction,
+    Transaction = 5,
     // Is there such an object?
-    Object,
+    Object = 6,
     // Is the object in a set, or has the set a free place?
-    Room,
+    Room = 7,
     // Is a request in hand?
-    NoRequest,
+    NoRequest = 8,
 }
 
 impl Refusal {
@@ -27,15 +27,6 @@ impl Refusal {
     pub fn number(self) -> u8
         ensures { result ≡ refusal_number self }
     {
-        match self {
-            Refusal::Sizes => 1,
-            Refusal::Process => 2,
-            Refusal::Record => 3,
-            Refusal::InHand => 4,
-            Refusal::Transaction => 5,
-            Refusal::Object => 6,
-            Refusal::Room => 7,
-            Refusal::NoRequest => 8,
-        }
+        self as u8
     }
 }

@@ -1,7 +1,7 @@
 // Requests, and what a step replies.
 
 // What a process may ask for.
-#[derive(Clone, Copy)]
+#[derive(Clone, Copy, Debug, PartialEq, Eq)]
 pub enum Request<K> {
     Begin,
     Read { object: usize },
@@ -12,7 +12,7 @@ pub enum Request<K> {
 
 // Why a transaction cannot go on: another process holds an object, an object has another stamp than the one that
 // was read, or no stamp is left.
-#[derive(Clone, Copy)]
+#[derive(Clone, Copy, Debug, PartialEq, Eq)]
 pub enum Conflict {
     Held { object: usize },
     Changed { object: usize },
@@ -20,7 +20,7 @@ pub enum Conflict {
 }
 
 // The answer that completes a request, with the steps that the request took.
-#[derive(Clone, Copy)]
+#[derive(Clone, Copy, Debug, PartialEq, Eq)]
 pub enum Answer<K> {
     Begun { steps: usize },
     Read { content: K, steps: usize },
@@ -32,7 +32,7 @@ pub enum Answer<K> {
 
 // What a step did to the shared memory: nothing, became the holder of an object, sealed its transaction, gave an
 // object its new content, or freed an object.
-#[derive(Clone, Copy)]
+#[derive(Clone, Copy, Debug, PartialEq, Eq)]
 pub enum Effect {
     Nothing,
     Took { object: usize },
@@ -42,7 +42,7 @@ pub enum Effect {
 }
 
 // The reply to a step: its effect, and the answer if it completes the request.
-#[derive(Clone, Copy)]
+#[derive(Clone, Copy, Debug, PartialEq, Eq)]
 pub struct Stepped<K> {
     pub effect: Effect,
     pub answer: Option<Answer<K>>,
