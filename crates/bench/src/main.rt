@@ -2,40 +2,25 @@
 // bank and contents 0, and prints a line for each answer and each refusal. A refused block ends the run.
 #![tactic(auto)]
 
-ghost use Rattle.std.specs.Prelude.{◌≤◌, length, IfOk};
-
 use anyhow::anyhow;
 use session::Session;
-use std::io;
 use std::io::Read;
 
 const BLOCK_LEN: usize = 512;
-
-// Reads until the buffer is full or the input ends, and tells how many bytes came.
-fn fill(input: &mut impl Read, buffer: &mut [u8]) -> io::Result<usize>
-    ensures { IfOk result (λ n. n ≤ length buffer.old) }
-{
-    let mut filled = 0;
-    for _ in 0..buffer.len() {
-        let count = input.read(&mut buffer[filled..])?;
-        if count == 0 {
-            break;
-        }
-        filled += count;
-    }
-    Ok(filled)
-}
 
 fn run(rt: &HostRuntime) -> anyhow::Result<()> {
     let mut session = Session::new(rt.alloc())?;
     let mut input = rt.stdin();
     for place in 0..u32::MAX {
-        let mut buffer = [0u8; BLOCK_LEN];
-        let count = fill(&mut input, &mut buffer)?;
-        if count == 0 {
+        let mut piece = Vec::with_capacity(rt.alloc(), BLOCK_LEN)?;
+        input
+            .by_ref()
+            .take(BLOCK_LEN as u64)
+            .read_to_end(&mut piece)?;
+        if piece.is_empty() {
             return Ok(());
         }
-        let goes_on = session.carry_out(rt.alloc(), place, &buffer[0..count])?;
+        let goes_on = session.carry_out(rt.alloc(), place, piece.as_slice())?;
         print!(rt; "{}", session.text.as_str())?;
         session.text.clear();
         if !goes_on {

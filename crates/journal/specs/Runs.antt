@@ -7,9 +7,9 @@ use Rattle.engine.specs.Place.{place_call}
 use Rattle.engine.specs.Step.{step_call, step_bank}
 use Rattle.journal.specs.declared.call.Call.{Call}
 use Rattle.journal.specs.declared.call.Call.TheVariants.{Place, Step}
+use Rattle.journal.specs.declared.call.Done.{Done}
+use Rattle.journal.specs.declared.call.Done.TheVariants.{Placed, Made}
 use Rattle.journal.specs.declared.call.Line.{Line}
-use Rattle.journal.specs.declared.call.Reply.{Reply}
-use Rattle.journal.specs.declared.call.Reply.TheVariants.{Placed, Made, Refused}
 
 -- the tables of a memory and its bank
 pub record World (K B : Type 0) : Type 0 where
@@ -19,13 +19,17 @@ pub record World (K B : Type 0) : Type 0 where
 abbrev pub world : {K B : Type 0} → Tables K → B → World K B
 world t b = record { tables = t; bank = b }
 
+-- what a call came to, or the question that refused it
+abbrev pub Reply : Type 0 → Type 0
+Reply K = Result (Done K) Refusal
+
 abbrev pub placing_reply : {K : Type 0} → Result (Unit {0}) Refusal → Reply K
-placing_reply (Ok done) = Placed
-placing_reply (Err q) = Refused q
+placing_reply (Ok done) = Ok Placed
+placing_reply (Err q) = Err q
 
 abbrev pub step_reply : {K : Type 0} → Result (Stepped K) Refusal → Reply K
-step_reply (Ok s) = Made s
-step_reply (Err q) = Refused q
+step_reply (Ok s) = Ok (Made s)
+step_reply (Err q) = Err q
 
 -- what a call replies
 abbrev pub reply_to : {K B : Type 0} → K → (B → ℕ → ℕ) → World K B → Call K → Reply K

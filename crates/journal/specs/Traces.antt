@@ -1,25 +1,24 @@
 -- The trace of a journal: what it has on record of the placings and steps that were carried out; and the memories that lists of
 -- calls reach from a fresh one.
-use Rattle.std.specs.Prelude.{◌≡◌, ℕ, true, List, [], ◌∷◌, length, slice_index_or}
+use Rattle.std.specs.Prelude.{◌≡◌, ℕ, true, List, [], ◌∷◌, length, Ok, Err, slice_index_or}
 use Rattle.tables.specs.Fresh.{fresh_tables}
 use Rattle.tables.specs.Tables.{Tables, object_at, numbers_ok}
 use Rattle.law.specs.Trace.{Trace, entry}
 use Rattle.law.specs.Trace.Act.{placed, made}
 use Rattle.journal.specs.declared.call.Call.{Call}
 use Rattle.journal.specs.declared.call.Call.TheVariants.{Place, Step}
+use Rattle.journal.specs.declared.call.Done.TheVariants.{Placed, Made}
 use Rattle.journal.specs.declared.call.Line.{Line}
-use Rattle.journal.specs.declared.call.Reply.{Reply}
-use Rattle.journal.specs.declared.call.Reply.TheVariants.{Placed, Made, Refused}
-use Rattle.journal.specs.Runs.{World, world, Ran}
+use Rattle.journal.specs.Runs.{World, world, Reply, Ran}
 
 -- A line puts a placing or a step on record, unless it was refused.
 abbrev pub noted : {K : Type 0} → Call K → Reply K → Trace K → Trace K
-noted (Place p q) Placed j = entry p (placed q) ∷ j
-noted (Place p q) (Made s) j = j
-noted (Place p q) (Refused n) j = j
-noted (Step p) Placed j = j
-noted (Step p) (Made s) j = entry p (made s) ∷ j
-noted (Step p) (Refused n) j = j
+noted (Place p q) (Ok Placed) j = entry p (placed q) ∷ j
+noted (Place p q) (Ok (Made s)) j = j
+noted (Place p q) (Err n) j = j
+noted (Step p) (Ok Placed) j = j
+noted (Step p) (Ok (Made s)) j = entry p (made s) ∷ j
+noted (Step p) (Err n) j = j
 
 -- the trace j with what the lines have on record
 abbrev pub trace_on : {K : Type 0} → Trace K → List (Line K) → Trace K

@@ -4,5 +4,5 @@
 mod call;
 mod runs;
 
-pub use call::{Call, Line, Reply};
+pub use call::{Call, Done, Line, Reply};
 pub use runs::{execute, perform};

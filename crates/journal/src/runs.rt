@@ -5,33 +5,13 @@ ghost use Rattle.law.specs.Law.{Lawful};
 ghost use Rattle.law.specs.Trace.{Trace};
 ghost use Rattle.journal.specs.Traces.{trace_on, contents_of, Reached};
 ghost use Rattle.journal.specs.Trust.{IsFresh, AllTrusted};
-ghost use Rattle.journal.specs.Runs.{world, placing_reply, step_reply, reply_to, after_call, Ran};
+ghost use Rattle.journal.specs.Runs.{world, reply_to, after_call, Ran};
 
-use super::call::{Call, Line, Reply};
+use super::call::{Call, Done, Line, Reply};
 use banks::Bank;
 use engine::{place, step};
 use std::alloc::{AllocError, Global};
-use tables::{Kind, Memory, Refusal, Stepped};
-
-// The reply to a placing.
-fn placing_reply<K: Kind>(res: Result<(), Refusal>) -> Reply<K>
-    ensures { result ≡ placing_reply res }
-{
-    match res {
-        Ok(()) => Reply::Placed,
-        Err(refusal) => Reply::Refused { refusal },
-    }
-}
-
-// The reply to a step.
-fn step_reply<K: Kind>(res: Result<Stepped<K>, Refusal>) -> Reply<K>
-    ensures { result ≡ step_reply res }
-{
-    match res {
-        Ok(step) => Reply::Made { step },
-        Err(refusal) => Reply::Refused { refusal },
-    }
-}
+use tables::{Kind, Memory};
 
 // Performs one call.
 pub fn perform<K: Kind, B: Bank>(memory: &mut Memory<K>, bank: &mut B, call: Call<K>) -> Reply<K>
@@ -40,8 +20,14 @@ pub fn perform<K: Kind, B: Bank>(memory: &mut Memory<K>, bank: &mut B, call: Cal
     ensures bank { bank.new ≡ (after_call K.Kind.empty B.Bank.number B.Bank.moved (world (tables_of memory.old) bank.old) call).bank }
 {
     match call {
-        Call::Place { process, request } => placing_reply(place(memory, process, request)),
-        Call::Step { process } => step_reply(step(memory, bank, process)),
+        Call::Place { process, request } => {
+            place(memory, process, request)?;
+            Ok(Done::Placed)
+        }
+        Call::Step { process } => {
+            let step = step(memory, bank, process)?;
+            Ok(Done::Made { step })
+        }
     }
 }
 

@@ -42,12 +42,10 @@ fn add_block(input: &mut Vec<u8>, number: u32, entries: &[Entry]) -> anyhow::Res
 // The text that a run of this input prints.
 fn transcript(heap: Global, input: &[u8]) -> anyhow::Result<String> {
     let mut session = Session::new(heap)?;
-    let mut place = 0u32;
-    for piece in input.chunks(BLOCK_LEN) {
+    for (place, piece) in (0u32..).zip(input.chunks(BLOCK_LEN)) {
         if !session.carry_out(heap, place, piece)? {
             break;
         }
-        place = place.saturating_add(1);
     }
     let Session {
         memory: _,

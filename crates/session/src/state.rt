@@ -3,7 +3,7 @@ ghost use Rattle.std.specs.Prelude.{◌≡◌, ◌+◌, ◌^◌, ◌<◌, true, 
 ghost use Rattle.session.specs.Left.{Fresh, Left};
 ghost use Rattle.session.specs.Printed.{ended, printed_line, printed};
 
-use anyhow::anyhow;
+use anyhow::Context;
 use banks::OwnBank;
 use journal::Line;
 use std::alloc::{AllocError, Global};
@@ -25,8 +25,7 @@ pub struct Session {
 fn add_line(text: &mut String, line: &str) -> Result<(), AllocError>
     ensures { is_ok result ≡ true → string_bytes text.new ≡ string_bytes text.old ++ ended line.now }
 {
-    text.push_str(line)?;
-    text.push('\n')
+    writeln!(text, "{line}")
 }
 
 // Adds what is printed of a journal's line of this call number, if anything is.
@@ -38,10 +37,10 @@ fn add_printed(
 ) -> Result<(), AllocError>
     ensures { is_ok result ≡ true → string_bytes text.new ≡ string_bytes text.old ++ printed_line number line }
 {
-    match line_text(heap, number, &line)? {
-        Some(printed) => add_line(text, printed.as_str()),
-        None => Ok(()),
+    if let Some(printed) = line_text(heap, number, &line)? {
+        add_line(text, printed.as_str())?;
     }
+    Ok(())
 }
 
 // Adds what is printed of the lines of a journal; `done` calls were made before it.
@@ -65,11 +64,8 @@ impl Session {
     pub fn new(heap: Global) -> anyhow::Result<Session>
         ensures { IfOk result Fresh }
     {
-        let Ok(memory) = Memory::fresh(heap, &[0u32, 0, 0, 0], PROCESSES) else {
-            return Err(anyhow!("no memory for the tables"));
-        };
         Ok(Session {
-            memory,
+            memory: Memory::fresh(heap, &[0u32, 0, 0, 0], PROCESSES)?,
             bank: OwnBank::new(),
             done: 0,
             text: String::new(heap),
@@ -83,9 +79,10 @@ impl Session {
     {
         match carry_out(heap, &mut self.memory, &mut self.bank, piece, place) {
             Ok(lines) => {
-                let Some(done) = self.done.checked_add(lines.len()) else {
-                    return Err(anyhow!("too many calls"));
-                };
+                let done = self
+                    .done
+                    .checked_add(lines.len())
+                    .context("too many calls")?;
                 add_lines(heap, &mut self.text, self.done, lines.as_slice())?;
                 self.done = done;
                 Ok(true)
@@ -95,7 +92,7 @@ impl Session {
                 add_line(&mut self.text, text.as_str())?;
                 Ok(false)
             }
-            Err(BlockError::NoMemory) => Err(anyhow!("no memory for a block")),
+            Err(error @ BlockError::NoMemory) => Err(error.into()),
         }
     }
 }

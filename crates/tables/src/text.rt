@@ -1,6 +1,6 @@
 // How a conflict and an answer are printed: a word, the values of the case, and of an answer its step count.
 ghost use Rattle.std.specs.Prelude.{Some};
-ghost use Rattle.tables.specs.Text.{conflict_words, answer_words};
+ghost use Rattle.tables.specs.Text.{conflict_words, answer_output};
 
 use super::reply::{Answer, Conflict};
 use std::fmt;
@@ -18,7 +18,7 @@ impl fmt::Display for Conflict {
 }
 
 impl<K: fmt::Display> fmt::Display for Answer<K> {
-    ghost output = { λ a. answer_words K.output a };
+    ghost output = { λ a. answer_output K.output a };
 
     fn fmt<W: fmt::Write>(&self, f: &mut fmt::Formatter<W>) -> fmt::Result {
         match self {

@@ -6,8 +6,8 @@ use Rattle.blocks.specs.Records.{Said, at32}
 use Rattle.tables.specs.declared.reply.Request.TheVariants.{Begin, Read, Write, Commit, Withdraw}
 use Rattle.journal.specs.declared.call.Call.{Call}
 use Rattle.journal.specs.declared.call.Call.TheVariants.{Place, Step}
-use Rattle.turns.specs.declared.calls.BlockError.{BlockError}
-use Rattle.turns.specs.declared.calls.BlockError.TheVariants.{Refused, NoMemory}
+use Rattle.turns.specs.declared.block_error.BlockError.{BlockError}
+use Rattle.turns.specs.declared.block_error.BlockError.TheVariants.{Refused, NoMemory}
 
 -- the number that four bytes hold, low byte first
 abbrev pub number_in : List ℕ → ℕ

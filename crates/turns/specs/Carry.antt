@@ -5,8 +5,8 @@ use Rattle.blocks.specs.Reading.{read_refusal, records_of, count_of}
 use Rattle.journal.specs.Runs.{World, Ran}
 use Rattle.journal.specs.declared.call.Line.{Line}
 use Rattle.turns.specs.Calls.{call_of}
-use Rattle.turns.specs.declared.calls.BlockError.{BlockError}
-use Rattle.turns.specs.declared.calls.BlockError.TheVariants.{Refused, NoMemory}
+use Rattle.turns.specs.declared.block_error.BlockError.{BlockError}
+use Rattle.turns.specs.declared.block_error.BlockError.TheVariants.{Refused, NoMemory}
 
 -- w is the world before and v the one after; the blank of 32-bit numbers is 0
 abbrev pub Carried : {B : Type 0} → (B → ℕ → ℕ) → (B → ℕ → ℕ → B) → List ℕ → ℕ → World ℕ B → Result (Vec (Line ℕ)) BlockError → World ℕ B → Type 0

@@ -1,3 +1,4 @@
+pub mod Error
 pub mod Text
 pub mod Calls
 pub mod Carry

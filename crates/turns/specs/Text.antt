@@ -1,37 +1,23 @@
--- What the bench prints: for each case of an answer its word, its values and its step count; for a refusal the number
--- of the question.
-use Rattle.std.specs.Prelude.{ℕ, List, ◌++◌, Some, None, codes, decimal, Option}
+-- What the bench prints: of an answer its word, its values and its step count, of a refusal the number of the question.
+use Rattle.std.specs.Prelude.{ℕ, List, ◌++◌, Some, None, Ok, Err, codes, decimal, Option}
 use Rattle.blocks.specs.Refusals.{refusal_number as block_number}
 use Rattle.blocks.specs.declared.refusal.Refusal.{Refusal as BlockRefusal}
 use Rattle.tables.specs.Numbers.{refusal_number}
+use Rattle.tables.specs.Text.{answer_words}
 use Rattle.tables.specs.declared.refusal.Refusal.{Refusal}
 use Rattle.tables.specs.declared.reply.Answer.{Answer}
-use Rattle.tables.specs.declared.reply.Answer.TheVariants.{Begun, Read, Written, Committed, Aborted, Withdrawn}
-use Rattle.tables.specs.declared.reply.Conflict.{Conflict}
-use Rattle.tables.specs.declared.reply.Conflict.TheVariants.{Held, Changed, Spent}
 use Rattle.journal.specs.declared.call.Call.{Call}
 use Rattle.journal.specs.declared.call.Call.TheVariants.{Place, Step}
-use Rattle.journal.specs.declared.call.Reply.{Reply}
-use Rattle.journal.specs.declared.call.Reply.TheVariants.{Placed, Made, Refused}
+use Rattle.journal.specs.declared.call.Done.TheVariants.{Placed, Made}
+use Rattle.journal.specs.Runs.{Reply}
 
 -- call number n and process p, followed by more
 abbrev pub after_caller : ℕ → ℕ → List ℕ → List ℕ
 after_caller n p more = decimal n ++ (codes " " ++ (decimal p ++ more))
 
--- a conflict: its cause, its object where it has one, and the step count
-abbrev pub conflict_text : ℕ → ℕ → Conflict → ℕ → List ℕ
-conflict_text n p (Held x) steps = after_caller n p (codes " aborted held " ++ (decimal x ++ (codes " " ++ decimal steps)))
-conflict_text n p (Changed x) steps = after_caller n p (codes " aborted changed " ++ (decimal x ++ (codes " " ++ decimal steps)))
-conflict_text n p Spent steps = after_caller n p (codes " aborted spent " ++ decimal steps)
-
--- an answer: its word, its values and the step count
+-- an answer of a call
 abbrev pub answer_text : ℕ → ℕ → Answer ℕ → List ℕ
-answer_text n p (Begun steps) = after_caller n p (codes " begun " ++ decimal steps)
-answer_text n p (Read v steps) = after_caller n p (codes " read " ++ (decimal v ++ (codes " " ++ decimal steps)))
-answer_text n p (Written steps) = after_caller n p (codes " written " ++ decimal steps)
-answer_text n p (Committed steps) = after_caller n p (codes " committed " ++ decimal steps)
-answer_text n p (Aborted c steps) = conflict_text n p c steps
-answer_text n p (Withdrawn steps) = after_caller n p (codes " withdrawn " ++ decimal steps)
+answer_text n p a = after_caller n p (codes " " ++ answer_words decimal a)
 
 abbrev pub refused_text : ℕ → ℕ → Refusal → List ℕ
 refused_text n p q = after_caller n p (codes " refused " ++ decimal (refusal_number q))
@@ -42,9 +28,9 @@ answered_text n p (Some a) = Some (answer_text n p a)
 answered_text n p None = None
 
 abbrev pub reply_text : ℕ → ℕ → Reply ℕ → Option (List ℕ)
-reply_text n p Placed = None
-reply_text n p (Made s) = answered_text n p s.answer
-reply_text n p (Refused q) = Some (refused_text n p q)
+reply_text n p (Ok Placed) = None
+reply_text n p (Ok (Made s)) = answered_text n p s.answer
+reply_text n p (Err q) = Some (refused_text n p q)
 
 abbrev pub caller_of : {K : Type 0} → Call K → ℕ
 caller_of (Place p q) = p

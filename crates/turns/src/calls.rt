@@ -4,17 +4,11 @@ ghost use Rattle.blocks.specs.Reading.{said_at, records_of, Full};
 ghost use Rattle.blocks.specs.Records.{said};
 ghost use Rattle.turns.specs.Calls.{number_in, call_of, Called};
 
-use blocks::{Block, Record, Refusal, read_block};
+use super::block_error::BlockError;
+use blocks::{Block, Record, read_block};
 use journal::Call;
 use std::alloc::{AllocError, Global};
 use tables::Request;
-
-// Why a block gave no calls: a question refused it, or there was no memory for them.
-#[derive(Clone, Copy)]
-pub enum BlockError {
-    Refused { refusal: Refusal },
-    NoMemory,
-}
 
 // The number that four content bytes hold, low byte first.
 fn content_number(content: &[u8]) -> u32
@@ -32,7 +26,7 @@ pub fn call_for(turn: Record<'_>) -> Call<u32>
 {
     match turn {
         Record::Begin { process, .. } => Call::Place {
-            process: process as usize,
+            process: process.into(),
             request: Request::Begin,
         },
         Record::Read {
@@ -41,9 +35,9 @@ pub fn call_for(turn: Record<'_>) -> Call<u32>
             ..
         } => {
             Call::Place {
-                process: process as usize,
+                process: process.into(),
                 request: Request::Read {
-                    object: object as usize,
+                    object: object.into(),
                 },
             }
         }
@@ -54,23 +48,23 @@ pub fn call_for(turn: Record<'_>) -> Call<u32>
         } => {
             let content = content_number(content);
             Call::Place {
-                process: process as usize,
+                process: process.into(),
                 request: Request::Write {
-                    object: object as usize,
+                    object: object.into(),
                     content,
                 },
             }
         }
         Record::Commit { process, .. } => Call::Place {
-            process: process as usize,
+            process: process.into(),
             request: Request::Commit,
         },
         Record::Withdraw { process, .. } => Call::Place {
-            process: process as usize,
+            process: process.into(),
             request: Request::Withdraw,
         },
         Record::Step { process, .. } => Call::Step {
-            process: process as usize,
+            process: process.into(),
         },
     }
 }
@@ -103,12 +97,6 @@ fn block_calls(heap: Global, block: Block<'_>) -> Result<Vec<Call<u32>>, AllocEr
 pub fn calls_in(heap: Global, bytes: &[u8], next: u32) -> Result<Vec<Call<u32>>, BlockError>
     ensures { Called bytes.now next result }
 {
-    let block = match read_block(bytes, next) {
-        Ok(block) => block,
-        Err(refusal) => return Err(BlockError::Refused { refusal }),
-    };
-    match block_calls(heap, block) {
-        Ok(calls) => Ok(calls),
-        Err(_) => Err(BlockError::NoMemory),
-    }
+    let block = read_block(bytes, next)?;
+    Ok(block_calls(heap, block)?)
 }

@@ -3,7 +3,8 @@ ghost use Rattle.tables.specs.Tables.{tables_of};
 ghost use Rattle.journal.specs.Runs.{world};
 ghost use Rattle.turns.specs.Carry.{Carried};
 
-use super::calls::{BlockError, calls_in};
+use super::block_error::BlockError;
+use super::calls::calls_in;
 use banks::Bank;
 use journal::{Line, execute};
 use std::alloc::Global;
@@ -21,8 +22,5 @@ pub fn carry_out<B: Bank>(
     ensures { Carried B.Bank.number B.Bank.moved bytes.now next (world (tables_of memory.old) bank.old) result (world (tables_of memory.new) bank.new) }
 {
     let calls = calls_in(heap, bytes, next)?;
-    match execute(heap, memory, bank, calls.as_slice()) {
-        Ok(lines) => Ok(lines),
-        Err(_) => Err(BlockError::NoMemory),
-    }
+    Ok(execute(heap, memory, bank, calls.as_slice())?)
 }

@@ -14,12 +14,11 @@ use Rattle.tables.specs.declared.reply.Stepped.{Stepped}
 use Rattle.engine.specs.Outcome.{Outcome, answering}
 use Rattle.engine.specs.Commit.{seal_stamp, stored_object}
 use Rattle.engine.specs.Step.{step_call}
-use Rattle.journal.specs.Runs.{world, journal}
+use Rattle.journal.specs.Runs.{Reply, world, journal}
 use Rattle.journal.specs.declared.call.Call.{Call}
 use Rattle.journal.specs.declared.call.Call.TheVariants.{Place, Step}
 use Rattle.journal.specs.declared.call.Line.{Line}
-use Rattle.journal.specs.declared.call.Reply.{Reply}
-use Rattle.journal.specs.declared.call.Reply.TheVariants.{Placed, Made}
+use Rattle.journal.specs.declared.call.Done.TheVariants.{Placed, Made}
 
 -- One process reads object 1 in its first step. Its clock is 5, and its read set has that many pairs, at most one; object
 -- 1 has the given stamp and content 7.
@@ -58,7 +57,7 @@ last r (l ∷ ls) = last l.reply ls
 
 abbrev pub commits : ℕ → ℕ → ℕ → Reply ℕ
 commits r w steps =
-    last Placed
+    last (Ok Placed)
     (journal 0 (λ _ _. 0) (λ b _ _. b) (world {B = Unit {0}} (fresh_tables 0 (replicate 32 0) 1) tt) (transaction r w steps))
 
 abbrev pub Worked : Type 0
@@ -72,9 +71,9 @@ Worked =
     -- stamp 6 at clock 5 with an empty read set: one step, and the clock is 6
     × (((first_step (reading 0 6)).reply ≡ Ok (answering Nothing (answer.Read 7 1))) × ((process_at (first_step (reading 0 6)).tables 0).clock ≡ 6))
     -- a commit of nothing takes 1 step, of 2 writes 3, of 32 reads and 16 writes 49
-    × (commits 0 0 1 ≡ Made (answering Nothing (answer.Committed 1)))
-    × (commits 0 2 3 ≡ Made (answering (Stored 1) (answer.Committed 3)))
-    × (commits 32 16 49 ≡ Made (answering (Stored 15) (answer.Committed 49)))
+    × (commits 0 0 1 ≡ Ok (Made (answering Nothing (answer.Committed 1))))
+    × (commits 0 2 3 ≡ Ok (Made (answering (Stored 1) (answer.Committed 3))))
+    × (commits 32 16 49 ≡ Ok (Made (answering (Stored 15) (answer.Committed 49))))
     -- 14 tenths of a penny are 1 penny, 15 are 2
     × ((fare_of 1 14 ≡ 1) × (fare_of 1 15 ≡ 2))
     -- a block whose byte 509 alone is 255 and whose other bytes are 0

@@ -24,20 +24,6 @@ fn finish(
     Err(Fail::new("the request has no answer"))
 }
 
-// Whether an answer is that of a read of one step that gave the purse in debt, with bicycle 17 out since minute 905.
-fn is_debt(answer: Answer<Dock>) -> bool {
-    match answer {
-        Answer::Read {
-            content: Dock::Purse {
-                balance: -250,
-                hire: Some(hire),
-            },
-            steps: 1,
-        } => hire.bicycle == 17 && hire.start == 905,
-        _ => false,
-    }
-}
-
 // The common bank starts one below its largest number: a purse is written, read back, committed and read by the other
 // process, and the next commit of a write finds no stamp.
 #[test]
@@ -50,71 +36,59 @@ fn purse_and_bay(rt: HostRuntime) -> Result<(), Fail> {
             hire: None,
         },
     ];
-    let Ok(mut memory) = Memory::fresh(rt.alloc(), &contents, 2) else {
-        return Err(Fail::new("no memory for the tables"));
-    };
+    let mut memory = Memory::fresh(rt.alloc(), &contents, 2)?;
     let Some(mut bank) = CommonBank::at(LARGEST - 1) else {
         return Err(Fail::new("no such bank"));
     };
-    let debt = Request::Write {
-        object: 2,
-        content: Dock::Purse {
-            balance: -250,
-            hire: Some(Hire {
-                bicycle: 17,
-                start: 905,
-            }),
-        },
+    // The purse in debt, with bicycle 17 out since minute 905.
+    let debt = Dock::Purse {
+        balance: -250,
+        hire: Some(Hire {
+            bicycle: 17,
+            start: 905,
+        }),
     };
-    let emptied = Request::Write {
+    let pay = Request::Write {
+        object: 2,
+        content: debt,
+    };
+    let empty = Request::Write {
         object: 1,
         content: Dock::EmptyBay,
     };
+    let purse = Request::Read { object: 2 };
+    let begun = Answer::Begun { steps: 2 };
+    let written = Answer::Written { steps: 1 };
+    let in_debt = Answer::Read {
+        content: debt,
+        steps: 1,
+    };
 
     // Process 0 seals with the largest stamp.
-    let begun = finish(&mut memory, &mut bank, 0, Request::Begin)?;
-    assert!(rt; matches!(begun, Answer::Begun { steps: 2 }));
-    let written = finish(&mut memory, &mut bank, 0, debt)?;
-    assert!(rt; matches!(written, Answer::Written { steps: 1 }));
-    let pending = finish(&mut memory, &mut bank, 0, Request::Read { object: 2 })?;
-    assert!(rt; is_debt(pending));
-    let committed = finish(&mut memory, &mut bank, 0, Request::Commit)?;
-    assert!(rt; matches!(committed, Answer::Committed { steps: 2 }));
+    assert_eq!(rt; finish(&mut memory, &mut bank, 0, Request::Begin)?, begun);
+    assert_eq!(rt; finish(&mut memory, &mut bank, 0, pay)?, written);
+    assert_eq!(rt; finish(&mut memory, &mut bank, 0, purse)?, in_debt);
+    let committed = Answer::Committed { steps: 2 };
+    assert_eq!(rt;
+        finish(&mut memory, &mut bank, 0, Request::Commit)?,
+        committed
+    );
 
     // Process 1 certifies one pair, finds no stamp and frees one object.
-    let begun = finish(&mut memory, &mut bank, 1, Request::Begin)?;
-    assert!(rt; matches!(begun, Answer::Begun { steps: 2 }));
-    let read = finish(&mut memory, &mut bank, 1, Request::Read { object: 2 })?;
-    assert!(rt; is_debt(read));
-    let written = finish(&mut memory, &mut bank, 1, emptied)?;
-    assert!(rt; matches!(written, Answer::Written { steps: 1 }));
-    let spent = finish(&mut memory, &mut bank, 1, Request::Commit)?;
-    let Answer::Aborted {
+    assert_eq!(rt; finish(&mut memory, &mut bank, 1, Request::Begin)?, begun);
+    assert_eq!(rt; finish(&mut memory, &mut bank, 1, purse)?, in_debt);
+    assert_eq!(rt; finish(&mut memory, &mut bank, 1, empty)?, written);
+    let spent = Answer::Aborted {
         conflict: Conflict::Spent,
         steps: 3,
-    } = spent
-    else {
-        return Err(Fail::new("not spent in three steps"));
     };
+    assert_eq!(rt; finish(&mut memory, &mut bank, 1, Request::Commit)?, spent);
 
     // The bay is free and as it was.
-    let begun = finish(&mut memory, &mut bank, 0, Request::Begin)?;
-    assert!(rt; matches!(begun, Answer::Begun { steps: 2 }));
-    let bay = finish(&mut memory, &mut bank, 0, Request::Read { object: 1 })?;
-    let Answer::Read {
-        content: Dock::Bay { bicycle: 17 },
-        steps: 1,
-    } = bay
-    else {
-        return Err(Fail::new("not the bay with bicycle 17"));
-    };
-    let tariff = finish(&mut memory, &mut bank, 0, Request::Read { object: 0 })?;
-    let Answer::Read {
-        content: Dock::Tariff { tenths: 125 },
-        steps: 1,
-    } = tariff
-    else {
-        return Err(Fail::new("not the tariff"));
-    };
+    assert_eq!(rt; finish(&mut memory, &mut bank, 0, Request::Begin)?, begun);
+    for (object, content) in [(1, contents[1]), (0, contents[0])] {
+        let read = finish(&mut memory, &mut bank, 0, Request::Read { object })?;
+        assert_eq!(rt; read, Answer::Read { content, steps: 1 });
+    }
     Ok(())
 }

@@ -1,8 +1,7 @@
 -- One call more, and the end of the list.
 use Rattle.std.proofs.Common.{◌≡◌, ◌+◌, [], ◌∷◌, ◌++◌, drop, vec_items, sym, ap, ◌∙◌, subst, rules}
 use Rattle.tables.specs.Tables.{tables_of}
-use Rattle.journal.specs.declared.call.Reply.{Reply}
-use Rattle.journal.specs.Runs.{world, line, journal, after_call, Ran}
+use Rattle.journal.specs.Runs.{Reply, world, line, journal, after_call, Ran}
 use Rattle.journal.specs.Trust.{AllTrusted}
 use Rattle.journal.specs.Traces.{trace_on}
 use Rattle.journal.specs.Traces.Reached.{later}

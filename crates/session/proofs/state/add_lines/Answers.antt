@@ -1,8 +1,8 @@
 -- One line more, and the end of the lines.
-use Rattle.std.proofs.Common.{true, ◌++◌, string_bytes, refl}
+use Rattle.std.proofs.Common.{true, ◌++◌, Ok, string_bytes, refl}
 use Rattle.journal.specs.Runs.{line}
 use Rattle.journal.specs.declared.call.Call.TheVariants.{Place}
-use Rattle.journal.specs.declared.call.Reply.TheVariants.{Placed}
+use Rattle.journal.specs.declared.call.Done.TheVariants.{Placed}
 use Rattle.tables.specs.declared.reply.Request.TheVariants.{Begin}
 use Rattle.session.specs.Printed.{printed}
 use Rattle.session.proofs.Lines.{printed_more, printed_all}
@@ -15,7 +15,7 @@ loop-i-preserved c =
     let ls = c.args.lines.now in
     let t = string_bytes c.loop-i.text in
     let all = string_bytes c.args.text.now ++ printed n ls in
-    let d = line (Place 0 Begin) Placed in
+    let d = line (Place 0 Begin) (Ok Placed) in
     printed_more n i ls t all c.loop-i.invariant d (string_bytes c.add_printed.new.text) c.loop-i-test.true (c.in_ok-add_printed.ensures (refl {a = true}))
 
 pub returns : goal.returns
