@@ -6,7 +6,7 @@ ghost use Rattle.blocks.specs.Writing.{entry_says, eight_of, body_of, block_of, 
 
 use super::check::check_of;
 use super::layout::{BLOCK_LEN, BODY_LEN, HEAD_LEN, PLACE_LEN, PLACES};
-use super::record::is_letter;
+use super::letter::is_letter;
 use super::refusal::Refusal;
 
 // A record to be written. The letter is a plain byte, which may be an unknown one.

@@ -1,0 +1,43 @@
+// The letters of records.
+ghost use Rattle.std.specs.Prelude.{◌≡◌};
+ghost use Rattle.blocks.specs.Letters.{Spells};
+ghost use Rattle.blocks.specs.Records.{known};
+
+use super::refusal::Refusal;
+
+// The letter of a record, which says what is asked for.
+#[derive(Clone, Copy, Debug, PartialEq, Eq)]
+pub(crate) enum Letter {
+    Begin,
+    Read,
+    Write,
+    Commit,
+    Withdraw,
+    Step,
+}
+
+// The letter that a byte is, or a refusal where the byte is none.
+impl TryFrom<u8> for Letter {
+    type Error = Refusal;
+
+    ghost try_from_gives = { Spells };
+
+    fn try_from(byte: u8) -> Result<Self, Refusal> {
+        match byte as char {
+            'B' => Ok(Letter::Begin),
+            'R' => Ok(Letter::Read),
+            'W' => Ok(Letter::Write),
+            'C' => Ok(Letter::Commit),
+            'D' => Ok(Letter::Withdraw),
+            'S' => Ok(Letter::Step),
+            _ => Err(Refusal::Letter),
+        }
+    }
+}
+
+// Whether a byte is the letter of a record.
+pub(crate) fn is_letter(byte: u8) -> bool
+    ensures { result ≡ known byte }
+{
+    Letter::try_from(byte).is_ok()
+}
