@@ -1,6 +1,6 @@
 -- What is read of a block: its records, and the five questions in their order.
-use Rattle.std.specs.Prelude.{◌≡◌, ℕ, ◌+◌, ◌*◌, ◌<◌, Bool, true, false, ◌&&◌, List, [], ◌∷◌, map, length, Some, None, Ok, Err, Option, Result, ◌==◌, nat_le, nat_lt}
-use Rattle.std.specs.List.{range_with_len, between}
+use Rattle.std.specs.Prelude.{◌≡◌, ℕ, ◌+◌, ◌*◌, ◌<◌, Bool, true, false, ◌&&◌, List, map, length, Some, None, Ok, Err, Option, Result, ◌==◌, nat_le, nat_lt}
+use Rattle.std.specs.List.{list_all, range_with_len, between}
 use Rattle.blocks.specs.declared.reader.Block.{Block}
 use Rattle.blocks.specs.declared.record.Record.{Record}
 use Rattle.blocks.specs.declared.refusal.Refusal.{Refusal}
@@ -31,8 +31,7 @@ records_of bs count = map (said_at bs) (range_with_len 0 count)
 
 -- whether the letter of each record is known
 abbrev pub letters_known : List Said → Bool
-letters_known [] = true
-letters_known (s ∷ ss) = known s.letter && letters_known ss
+letters_known = list_all (λ s. known s.letter)
 
 -- the first of the five questions that is answered 'no', or none
 abbrev pub read_refusal : List ℕ → ℕ → Option Refusal

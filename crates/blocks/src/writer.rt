@@ -22,12 +22,7 @@ pub struct Entry {
 fn letters_known(entries: &[Entry]) -> bool
     ensures { result ≡ letters_known (map entry_says entries.now) }
 {
-    for entry in entries {
-        if !is_letter(entry.letter) {
-            return false;
-        }
-    }
-    true
+    entries.iter().all(|entry| is_letter(entry.letter))
 }
 
 // Lays out the eight bytes of a record.
