@@ -5,7 +5,8 @@ use Rattle.blocks.specs.declared.reader.Block.{Block}
 use Rattle.blocks.specs.declared.refusal.Refusal.{Refusal}
 use Rattle.blocks.specs.declared.refusal.Refusal.TheVariants.{Length, Count, Letter}
 use Rattle.blocks.specs.declared.writer.Entry.{Entry}
-use Rattle.blocks.specs.Reading.{number_of, count_of, records_of, letters_known, read_refusal, Opens}
+use Rattle.blocks.specs.Reading.{number_of, count_of, records_of, letters_known, read_refusal}
+use Rattle.blocks.specs.Opening.{Opens}
 use Rattle.blocks.specs.Refusals.{first_no}
 use Rattle.blocks.specs.RoundTrip.{Restores}
 use Rattle.blocks.specs.Writing.{entry_says, block_of, write_refusal}

@@ -4,5 +4,6 @@ pub mod Checks
 pub mod Records
 pub mod Letters
 pub mod Reading
+pub mod Opening
 pub mod Writing
 pub mod RoundTrip
