@@ -6,7 +6,7 @@ use super::letter::Letter;
 use super::refusal::Refusal;
 
 // A record, with its four content bytes as a part of the block. In a block the cases have the letters B, R, W, C, D and S.
-#[derive(Clone, Copy)]
+#[derive(Clone, Copy, Debug, PartialEq, Eq)]
 pub enum Record<'a> {
     Begin {
         process: u8,

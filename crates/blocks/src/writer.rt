@@ -10,7 +10,7 @@ use super::letter::is_letter;
 use super::refusal::Refusal;
 
 // A record to be written. The letter is a plain byte, which may be an unknown one.
-#[derive(Clone, Copy)]
+#[derive(Clone, Copy, Debug, PartialEq, Eq)]
 pub struct Entry {
     pub letter: u8,
     pub process: u8,
@@ -25,14 +25,13 @@ fn letters_known(entries: &[Entry]) -> bool
     entries.iter().all(|entry| is_letter(entry.letter))
 }
 
-// Lays out the eight bytes of a record.
-fn lay_record(out: &mut [u8], entry: Entry)
-    requires { length out.old ≡ 8 }
-    ensures { out.new ≡ eight_of entry }
+// The eight bytes of a record.
+fn record_bytes(entry: Entry) -> [u8; PLACE_LEN]
+    ensures { result ≡ eight_of entry }
 {
     let [low, high] = entry.object.to_le_bytes();
     let [first, second, third, fourth] = entry.content.to_le_bytes();
-    out.copy_from_slice(&[
+    [
         entry.letter,
         entry.process,
         low,
@@ -41,7 +40,7 @@ fn lay_record(out: &mut [u8], entry: Entry)
         second,
         third,
         fourth,
-    ]);
+    ]
 }
 
 // Lays out the records one after another.
@@ -49,34 +48,37 @@ fn lay_records(out: &mut [u8], entries: &[Entry])
     requires { length out.old ≡ 8 * length entries.now }
     ensures { out.new ≡ flat_map eight_of entries.now }
 {
-    let mut at = 0;
-    for entry in entries {
-        lay_record(&mut out[at..at + PLACE_LEN], *entry);
-        at += PLACE_LEN;
+    // By counted places: of `chunks_exact_mut` the library does not say what the slice holds afterwards.
+    for (i, entry) in entries.iter().enumerate() {
+        let at = PLACE_LEN * i;
+        out[at..at + PLACE_LEN].copy_from_slice(&record_bytes(*entry));
     }
 }
 
 // Lays out the first 510 bytes of a block: count, number, records, and zeros after them.
+#[tactic(auto, unfolding(crate::specs::Writing::body_of))]
 fn lay_body(out: &mut [u8], number: u32, entries: &[Entry])
     requires { (length out.old ≡ 510) × (length entries.now ≤ 63) }
     ensures { out.new ≡ body_of number entries.now }
 {
-    let count = entries.len();
-    let end = HEAD_LEN + PLACE_LEN * count;
-    out[0..2].copy_from_slice(&(count as u16).to_le_bytes());
-    out[2..HEAD_LEN].copy_from_slice(&number.to_le_bytes());
-    lay_records(&mut out[HEAD_LEN..end], entries);
-    out[end..BODY_LEN].fill(0);
+    let (head, places) = out.split_at_mut(HEAD_LEN);
+    let (count, own_number) = head.split_at_mut(2);
+    let (records, free) = places.split_at_mut(PLACE_LEN * entries.len());
+    count.copy_from_slice(&(entries.len() as u16).to_le_bytes());
+    own_number.copy_from_slice(&number.to_le_bytes());
+    lay_records(records, entries);
+    free.fill(0);
 }
 
 // Lays out a whole block: its body, and the check of the body.
+#[tactic(auto, unfolding(crate::specs::Writing::block_of))]
 fn lay_block(out: &mut [u8], number: u32, entries: &[Entry])
     requires { (length out.old ≡ 512) × (length entries.now ≤ 63) }
     ensures { out.new ≡ block_of number entries.now }
 {
-    lay_body(&mut out[0..BODY_LEN], number, entries);
-    let check = check_of(out);
-    out[BODY_LEN..BLOCK_LEN].copy_from_slice(&check.to_le_bytes());
+    let (body, check) = out.split_at_mut(BODY_LEN);
+    lay_body(body, number, entries);
+    check.copy_from_slice(&check_of(body).to_le_bytes());
 }
 
 // Writes a block of these records under this number, or says which question refuses it and leaves the bytes as they were.
