@@ -4,6 +4,9 @@ ghost use Rattle.blocks.specs.Checks.{check_of};
 
 use super::layout::BODY_LEN;
 
+// What the sum is divided by; the check is the remainder.
+const MODULUS: u32 = 65521;
+
 // The check of a block: the sum of (i + 1) * byte i over its first 510 bytes, modulo 65521.
 pub fn check_of(block: &[u8]) -> u16
     ensures { result ≡ check_of block.now }
@@ -16,5 +19,5 @@ pub fn check_of(block: &[u8]) -> u16
         sum += weight * u32::from(*byte);
         weight += 1;
     }
-    (sum % 65521) as u16
+    (sum % MODULUS) as u16
 }

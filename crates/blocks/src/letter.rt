@@ -1,7 +1,5 @@
 // The letters of records.
-ghost use Rattle.std.specs.Prelude.{◌≡◌};
 ghost use Rattle.blocks.specs.Letters.{Spells};
-ghost use Rattle.blocks.specs.Records.{known};
 
 use super::refusal::Refusal;
 
@@ -33,11 +31,4 @@ impl TryFrom<u8> for Letter {
             _ => Err(Refusal::Letter),
         }
     }
-}
-
-// Whether a byte is the letter of a record.
-pub(crate) fn is_letter(byte: u8) -> bool
-    ensures { result ≡ known byte }
-{
-    Letter::try_from(byte).is_ok()
 }

@@ -5,11 +5,10 @@ ghost use Rattle.blocks.specs.Reading.{place_of, Full};
 
 mod questions;
 
-pub use questions::read_block;
-
 use super::layout::{HEAD_LEN, PLACE_LEN};
 use super::record::{Record, read_record};
 use super::refusal::Refusal;
+pub use questions::read_block;
 
 // A block that has been read: each place within the count holds a record.
 #[derive(Clone, Copy)]

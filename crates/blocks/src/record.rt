@@ -46,8 +46,7 @@ pub(crate) fn read_record<'a>(bytes: &'a [u8]) -> Result<Record<'a>, Refusal>
     ensures { Reads bytes.now result }
 {
     let [letter, process, low, high, content @ ..] = bytes else {
-        // Not taken: there are eight bytes.
-        return Err(Refusal::Length);
+        unreachable!()
     };
     let process = *process;
     let object = u16::from_le_bytes([*low, *high]);

@@ -5,8 +5,8 @@ ghost use Rattle.blocks.specs.Reading.{letters_known};
 ghost use Rattle.blocks.specs.Writing.{entry_says, eight_of, body_of, block_of, Wrote};
 
 use super::check::check_of;
-use super::layout::{BLOCK_LEN, BODY_LEN, HEAD_LEN, PLACE_LEN, PLACES};
-use super::letter::is_letter;
+use super::layout::{BLOCK_LEN, BODY_LEN, HEAD_LEN, NUMBER_AT, PLACE_LEN, PLACES};
+use super::letter::Letter;
 use super::refusal::Refusal;
 
 // A record to be written. The letter is a plain byte, which may be an unknown one.
@@ -18,29 +18,33 @@ pub struct Entry {
     pub content: u32,
 }
 
+impl Entry {
+    // The eight bytes of the record.
+    fn to_bytes(self) -> [u8; PLACE_LEN]
+        ensures { result ≡ eight_of self }
+    {
+        let [low, high] = self.object.to_le_bytes();
+        let [first, second, third, fourth] = self.content.to_le_bytes();
+        [
+            self.letter,
+            self.process,
+            low,
+            high,
+            first,
+            second,
+            third,
+            fourth,
+        ]
+    }
+}
+
 // Whether the letter of each record is known.
 fn letters_known(entries: &[Entry]) -> bool
     ensures { result ≡ letters_known (map entry_says entries.now) }
 {
-    entries.iter().all(|entry| is_letter(entry.letter))
-}
-
-// The eight bytes of a record.
-fn record_bytes(entry: Entry) -> [u8; PLACE_LEN]
-    ensures { result ≡ eight_of entry }
-{
-    let [low, high] = entry.object.to_le_bytes();
-    let [first, second, third, fourth] = entry.content.to_le_bytes();
-    [
-        entry.letter,
-        entry.process,
-        low,
-        high,
-        first,
-        second,
-        third,
-        fourth,
-    ]
+    entries
+        .iter()
+        .all(|entry| Letter::try_from(entry.letter).is_ok())
 }
 
 // Lays out the records one after another.
@@ -51,7 +55,7 @@ fn lay_records(out: &mut [u8], entries: &[Entry])
     // By counted places: of `chunks_exact_mut` the library does not say what the slice holds afterwards.
     for (i, entry) in entries.iter().enumerate() {
         let at = PLACE_LEN * i;
-        out[at..at + PLACE_LEN].copy_from_slice(&record_bytes(*entry));
+        out[at..at + PLACE_LEN].copy_from_slice(&entry.to_bytes());
     }
 }
 
@@ -62,7 +66,7 @@ fn lay_body(out: &mut [u8], number: u32, entries: &[Entry])
     ensures { out.new ≡ body_of number entries.now }
 {
     let (head, places) = out.split_at_mut(HEAD_LEN);
-    let (count, own_number) = head.split_at_mut(2);
+    let (count, own_number) = head.split_at_mut(NUMBER_AT);
     let (records, free) = places.split_at_mut(PLACE_LEN * entries.len());
     count.copy_from_slice(&(entries.len() as u16).to_le_bytes());
     own_number.copy_from_slice(&number.to_le_bytes());

@@ -5,7 +5,7 @@ ghost use Rattle.blocks.specs.Opening.{Opens};
 
 use super::{Block, read_place};
 use crate::check::check_of;
-use crate::layout::{BLOCK_LEN, BODY_LEN, PLACES};
+use crate::layout::{BLOCK_LEN, BODY_LEN, COUNT_AT, NUMBER_AT, PLACES};
 use crate::refusal::Refusal;
 
 // The N bytes from byte i on.
@@ -34,10 +34,10 @@ pub fn read_block<'a>(bytes: &'a [u8], next: u32) -> Result<Block<'a>, Refusal>
     if u16::from_le_bytes(bytes_at(bytes, BODY_LEN)) != check_of(bytes) {
         return Err(Refusal::Check);
     }
-    if u32::from_le_bytes(bytes_at(bytes, 2)) != next {
+    if u32::from_le_bytes(bytes_at(bytes, NUMBER_AT)) != next {
         return Err(Refusal::Number);
     }
-    let count = usize::from(u16::from_le_bytes(bytes_at(bytes, 0)));
+    let count = usize::from(u16::from_le_bytes(bytes_at(bytes, COUNT_AT)));
     if count > PLACES {
         return Err(Refusal::Count);
     }
