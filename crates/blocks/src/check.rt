@@ -19,5 +19,6 @@ pub fn check_of(block: &[u8]) -> u16
         sum += weight * u32::from(*byte);
         weight += 1;
     }
+    // `as`, which is proved to lose nothing: `try_from` would need a branch that is never taken.
     (sum % MODULUS) as u16
 }

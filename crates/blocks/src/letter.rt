@@ -21,6 +21,7 @@ impl TryFrom<u8> for Letter {
     ghost try_from_gives = { Spells };
 
     fn try_from(byte: u8) -> Result<Self, Refusal> {
+        // A rule of the project: the byte is read as a `char` and matched against letters.
         match byte as char {
             'B' => Ok(Letter::Begin),
             'R' => Ok(Letter::Read),

@@ -11,6 +11,7 @@ use super::refusal::Refusal;
 pub use questions::read_block;
 
 // A block that has been read: each place within the count holds a record.
+// The count is no length of the bytes: it is what the first two of them hold, read once.
 #[derive(Clone, Copy)]
 pub struct Block<'a> {
     bytes: &'a [u8],

@@ -6,6 +6,7 @@ use super::letter::Letter;
 use super::refusal::Refusal;
 
 // A record, with its four content bytes as a part of the block. In a block the cases have the letters B, R, W, C, D and S.
+// A rule of the project: an enum of six cases whose fields borrow the content.
 #[derive(Clone, Copy, Debug, PartialEq, Eq)]
 pub enum Record<'a> {
     Begin {
@@ -45,6 +46,7 @@ pub(crate) fn read_record<'a>(bytes: &'a [u8]) -> Result<Record<'a>, Refusal>
     requires { length bytes.now ≡ 8 }
     ensures { Reads bytes.now result }
 {
+    // A rule of the project: one slice pattern names the parts.
     let [letter, process, low, high, content @ ..] = bytes else {
         unreachable!()
     };

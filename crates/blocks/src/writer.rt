@@ -68,6 +68,7 @@ fn lay_body(out: &mut [u8], number: u32, entries: &[Entry])
     let (head, places) = out.split_at_mut(HEAD_LEN);
     let (count, own_number) = head.split_at_mut(NUMBER_AT);
     let (records, free) = places.split_at_mut(PLACE_LEN * entries.len());
+    // `as`, which is proved to lose nothing: `try_from` would need a branch that is never taken.
     count.copy_from_slice(&(entries.len() as u16).to_le_bytes());
     own_number.copy_from_slice(&number.to_le_bytes());
     lay_records(records, entries);
