@@ -20,9 +20,7 @@ told_eight e =
 -- each entry has eight bytes
 length-joined : (es : List Entry) → length (flat_map eight_of es) ≡ 8 * length es
 length-joined [] = refl
-length-joined (e ∷ es) =
-    let rest = length-joined es in
-    omega arith
+length-joined (e ∷ es) = omega (arith, length-joined es)
 
 -- the bytes of entry i, among the bytes of all
 joined_at : (es : List Entry) (i : ℕ) (z : List ℕ) (d : Entry) → i < length es → take 8 (drop (8 * i) (flat_map eight_of es ++ z)) ≡ eight_of (get_or es i d)
@@ -43,20 +41,12 @@ module _ (n : ℕ) (es : List Entry) (few : length es ≤ 63) where
   -- the body has 510 bytes
   length-body : length (body_of n es) ≡ 510
   unfolding body_of
-  length-body =
-      let past = 504 - 8 * length es in
-      let records = length-joined es in
-      let both = length-append (flat_map eight_of es) (replicate past 0) in
-      let zeros : length (replicate {A = ℕ} past 0) ≡ past = length-replicate past 0 in
-      omega arith
+  length-body = omega (arith, length-joined, length-append {A = ℕ}, length-replicate {A = ℕ})
 
   -- the block has 512 bytes
   length-block : length (block_of n es) ≡ 512
   unfolding block_of
-  length-block =
-      let body = length-body in
-      let both = length-append (body_of n es) (le16 (check_of (body_of n es))) in
-      omega arith
+  length-block = omega (arith, length-body, length-append {A = ℕ})
 
   -- the first two bytes hold the count
   pub count_block : count_of (block_of n es) ≡ length es
@@ -113,10 +103,5 @@ module _ (n : ℕ) (es : List Entry) (few : length es ≤ 63) where
   -- the reader answers each question 'yes' at a written block
   pub block_read : n < 2 ^ 32 → letters_known (map entry_says es) ≡ true → read_refusal (block_of n es) n ≡ None
   block_read h letters =
-      let block = block_of n es in
-      let size = length-block in
-      let count = count_block in
-      let number = number_block h in
-      let check = last_block in
-      let records = ap (λ (k : ℕ). letters_known (records_of block k)) count_block ∙ ap letters_known records_block ∙ letters in
-      grind (arith, nat_tests)
+      let records = ap (λ (k : ℕ). letters_known (records_of (block_of n es) k)) count_block ∙ ap letters_known records_block ∙ letters in
+      grind (arith, nat_tests, length-block, count_block, number_block h, last_block)
