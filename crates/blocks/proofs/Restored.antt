@@ -1,4 +1,4 @@
--- A block that was written, and what reading it answers.
+-- A block that was written, and what reading it answers. src/round_trip.rt names the lemma `restored`.
 use Rattle.std.proofs.Common.{◌≡◌, ℕ, ◌^◌, ◌<◌, ◌≤◌, true, List, map, length, None, Ok, Err, Result, ap, ◌∙◌, arith}
 use Rattle.std.proofs.lemmas.Bool.Decides.{nat_tests}
 use Rattle.blocks.specs.declared.reader.Block.{Block}

@@ -7,6 +7,7 @@ use super::refusal::Refusal;
 use super::writer::{Entry, write_block};
 
 // Writes a block and reads it back from the same bytes: the records that were written come back in their order, under the same number.
+#[tactic(auto, using(crate::proofs::Restored::restored))]
 pub fn write_then_read<'a>(
     out: &'a mut [u8],
     number: u32,
