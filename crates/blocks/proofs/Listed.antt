@@ -1,9 +1,11 @@
 -- Lists of what records say: how long they are, what they hold, and their letters one after another.
-use Rattle.std.proofs.Common.{◌≡◌, ℕ, ◌<◌, List, [], length, get_or, arith}
+use Rattle.std.proofs.Common.{◌≡◌, ℕ, ◌+◌, ◌*◌, ◌<◌, ◌≤◌, true, List, [], length, get_or, arith}
+use Rattle.std.proofs.lemmas.Bool.Decides.{nat_tests}
+use Rattle.std.proofs.lemmas.List.Sums.{AllPass-from_list_all}
 use Rattle.std.proofs.lemmas.List.FromFn.{length-map-range_with_len, get_or-map-range_with_len}
 use Rattle.blocks.specs.declared.writer.Entry.{Entry}
-use Rattle.blocks.specs.Records.{Said, says}
-use Rattle.blocks.specs.Reading.{said_at, records_of}
+use Rattle.blocks.specs.Records.{Said, says, known}
+use Rattle.blocks.specs.Reading.{said_at, records_of, letters_known, Full}
 
 -- what a list of entries gives past its end
 abbrev pub no_entry : Entry
@@ -22,3 +24,11 @@ length-records bs count = length-map-range_with_len (said_at bs) 0 count
 pub get_or-records : (bs : List ℕ) (count i : ℕ) (d : Said) → i < count → get_or (records_of bs count) i d ≡ said_at bs i
 unfolding records_of
 get_or-records bs count i d h = get_or-map-range_with_len (said_at bs) 0 count i i d h (omega arith)
+
+-- where the letters of the records are known, each place within the count holds a record
+pub full : (bs : List ℕ) (count : ℕ) → 6 + 8 * count ≤ length bs → letters_known (records_of bs count) ≡ true → Full bs count
+full bs count room letters i h =
+    let size = length-records bs count in
+    let letter = AllPass-from_list_all (λ (s : Said). known s.letter) (records_of bs count) letters i none (omega arith) in
+    let place = get_or-records bs count i none h in
+    grind (arith, nat_tests)
