@@ -1,4 +1,4 @@
--- Lists of what records say: how long they are, what they hold, and their letters one after another.
+-- Lists of what records say: how long they are, what they hold, and what known letters say of the places.
 use Rattle.std.proofs.Common.{◌≡◌, ℕ, ◌+◌, ◌*◌, ◌<◌, ◌≤◌, true, List, [], length, get_or, arith}
 use Rattle.std.proofs.lemmas.Bool.Decides.{nat_tests}
 use Rattle.std.proofs.lemmas.List.Sums.{AllPass-from_list_all}
