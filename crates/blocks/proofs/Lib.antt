@@ -1,5 +1,4 @@
 -- The lemmas that the proofs of several functions share.
 pub mod Listed
-pub mod Overwrites
 pub mod Written
 pub mod Restored

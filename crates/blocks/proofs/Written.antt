@@ -1,30 +1,26 @@
 -- The bytes of a block that was written, as they are read.
 use Rattle.std.proofs.Common.{◌≡◌, ℕ, zero, suc, ◌+◌, ◌-◌, ◌*◌, ◌/◌, ◌%◌, ◌^◌, ◌<◌, ◌≤◌, true, List, [], ◌∷◌, ◌++◌, map, length, get_or, take, drop, replicate, None, sym, refl, ap, ◌∙◌, arith}
-use native.Mathlib.Nat.{div-div-eq-div-mul}
 use Rattle.std.specs.List.{flat_map}
 use Rattle.std.proofs.lemmas.List.{append_assoc, take_at, take_all, drop-drop, length-append, length-replicate, length-map, get_or-map, get_or-append_right, same_lists}
 use Rattle.std.proofs.lemmas.Bool.Decides.{nat_tests}
+use Rattle.std.proofs.lemmas.Nat.{from_le_bytes-to_le_bytes_4}
 use Rattle.blocks.specs.declared.writer.Entry.{Entry}
 use Rattle.blocks.specs.Checks.{weighted, check_of}
-use Rattle.blocks.specs.Records.{says, told, at16}
+use Rattle.blocks.specs.Records.{told, at16}
 use Rattle.blocks.specs.Reading.{count_of, number_of, said_at, records_of, letters_known, read_refusal}
-use Rattle.blocks.specs.Writing.{le16, le32, eight_of, entry_says, body_of, block_of}
+use Rattle.blocks.specs.Writing.{le16, eight_of, entry_says, body_of, block_of}
 use Rattle.blocks.proofs.Listed.{no_entry, length-records, get_or-records}
-
--- a number from its lowest byte and what lies above it
-whole : (n : ℕ) → n % 256 + n / 256 * 256 ≡ n
-whole n = omega arith
 
 -- the bytes of an entry say what the entry says
 told_eight : (e : Entry) → told (eight_of e) ≡ entry_says e
-told_eight e = ap (λ (o : ℕ). says e.letter e.process o (le32 e.content)) (whole e.object)
+told_eight e =
+    let object : e.object % 256 + e.object / 256 * 256 ≡ e.object = omega arith in
+    cc
 
 -- each entry has eight bytes
 length-joined : (es : List Entry) → length (flat_map eight_of es) ≡ 8 * length es
 length-joined [] = refl
-length-joined (e ∷ es) =
-    let rest = length-joined es in
-    omega arith
+length-joined (e ∷ es) = omega (arith, length-joined es)
 
 -- the bytes of entry i, among the bytes of all
 joined_at : (es : List Entry) (i : ℕ) (z : List ℕ) (d : Entry) → i < length es → take 8 (drop (8 * i) (flat_map eight_of es ++ z)) ≡ eight_of (get_or es i d)
@@ -41,33 +37,16 @@ check_small : (bs : List ℕ) → check_of bs < 65521
 unfolding check_of
 check_small bs = omega arith
 
--- a number in four bytes is read as the same number
-four_bytes : (n : ℕ) → n < 2 ^ 32 → n % 256 + n / 256 % 256 * 256 + n / 65536 % 256 * 65536 + n / 16777216 % 256 * 16777216 ≡ n
-four_bytes n h =
-    let one : n % 256 + n / 256 * 256 ≡ n = whole n in
-    let two : n / 256 % 256 + n / 65536 * 256 ≡ n / 256 = ap (λ (k : ℕ). n / 256 % 256 + k * 256) (sym (div-div-eq-div-mul n 256 256)) ∙ whole (n / 256) in
-    let three : n / 65536 % 256 + n / 16777216 * 256 ≡ n / 65536 = ap (λ (k : ℕ). n / 65536 % 256 + k * 256) (sym (div-div-eq-div-mul n 65536 256)) ∙ whole (n / 65536) in
-    let four : n / 16777216 % 256 ≡ n / 16777216 = omega arith in
-    omega arith
-
 module _ (n : ℕ) (es : List Entry) (few : length es ≤ 63) where
   -- the body has 510 bytes
   length-body : length (body_of n es) ≡ 510
   unfolding body_of
-  length-body =
-      let past = 504 - 8 * length es in
-      let records = length-joined es in
-      let both = length-append (flat_map eight_of es) (replicate past 0) in
-      let zeros : length (replicate {A = ℕ} past 0) ≡ past = length-replicate past 0 in
-      omega arith
+  length-body = omega (arith, length-joined, length-append {A = ℕ}, length-replicate {A = ℕ})
 
   -- the block has 512 bytes
   length-block : length (block_of n es) ≡ 512
   unfolding block_of
-  length-block =
-      let body = length-body in
-      let both = length-append (body_of n es) (le16 (check_of (body_of n es))) in
-      omega arith
+  length-block = omega (arith, length-body, length-append {A = ℕ})
 
   -- the first two bytes hold the count
   pub count_block : count_of (block_of n es) ≡ length es
@@ -77,7 +56,7 @@ module _ (n : ℕ) (es : List Entry) (few : length es ≤ 63) where
   -- the next four bytes hold the number
   pub number_block : n < 2 ^ 32 → number_of (block_of n es) ≡ n
   unfolding block_of body_of
-  number_block h = four_bytes n h
+  number_block h = omega (arith, from_le_bytes-to_le_bytes_4 n h)
 
   -- the check covers the body alone
   check_block : check_of (block_of n es) ≡ check_of (body_of n es)
@@ -124,10 +103,5 @@ module _ (n : ℕ) (es : List Entry) (few : length es ≤ 63) where
   -- the reader answers each question 'yes' at a written block
   pub block_read : n < 2 ^ 32 → letters_known (map entry_says es) ≡ true → read_refusal (block_of n es) n ≡ None
   block_read h letters =
-      let block = block_of n es in
-      let size = length-block in
-      let count = count_block in
-      let number = number_block h in
-      let check = last_block in
-      let records = ap (λ (k : ℕ). letters_known (records_of block k)) count_block ∙ ap letters_known records_block ∙ letters in
-      grind (arith, nat_tests)
+      let records = ap (λ (k : ℕ). letters_known (records_of (block_of n es) k)) count_block ∙ ap letters_known records_block ∙ letters in
+      grind (arith, nat_tests, length-block, count_block, number_block h, last_block)

@@ -1,13 +1,10 @@
 -- What is read of a block: its records, and the five questions in their order.
-use Rattle.std.specs.Prelude.{◌≡◌, ℕ, ◌+◌, ◌*◌, ◌<◌, Bool, true, false, ◌&&◌, List, [], ◌∷◌, map, length, Some, None, Ok, Err, Option, Result, ◌==◌, nat_le, nat_lt}
-use Rattle.std.specs.List.{range_with_len, between}
-use Rattle.blocks.specs.declared.reader.Block.{Block}
-use Rattle.blocks.specs.declared.record.Record.{Record}
+use Rattle.std.specs.Prelude.{◌≡◌, ℕ, ◌+◌, ◌*◌, ◌<◌, Bool, true, ◌&&◌, List, map, length, Option, ◌==◌, nat_le, nat_lt}
+use Rattle.std.specs.List.{list_all, range_with_len, between}
 use Rattle.blocks.specs.declared.refusal.Refusal.{Refusal}
-use Rattle.blocks.specs.declared.refusal.Refusal.TheVariants.{Letter}
 use Rattle.blocks.specs.Checks.{check_of}
 use Rattle.blocks.specs.Refusals.{first_no}
-use Rattle.blocks.specs.Records.{Said, at16, at32, told, said, known}
+use Rattle.blocks.specs.Records.{Said, at16, at32, told, known}
 
 -- the count that a block holds
 abbrev pub count_of : List ℕ → ℕ
@@ -31,8 +28,7 @@ records_of bs count = map (said_at bs) (range_with_len 0 count)
 
 -- whether the letter of each record is known
 abbrev pub letters_known : List Said → Bool
-letters_known [] = true
-letters_known (s ∷ ss) = known s.letter && letters_known ss
+letters_known = list_all (λ s. known s.letter)
 
 -- the first of the five questions that is answered 'no', or none
 abbrev pub read_refusal : List ℕ → ℕ → Option Refusal
@@ -46,18 +42,3 @@ holds bs count i = nat_lt i count && (nat_le (6 + 8 * i + 8) (length bs) && know
 -- each place within the count holds a record
 abbrev pub Full : List ℕ → ℕ → Type 0
 Full bs count = (i : ℕ) → i < count → holds bs count i ≡ true
-
--- the answer to the last question alone
-abbrev pub Letters : List ℕ → ℕ → Result Unit Refusal → Type 0
-Letters bs count (Ok u) = (letters_known (records_of bs count) ≡ true) × Full bs count
-Letters bs count (Err e) = (letters_known (records_of bs count) ≡ false) × (e ≡ Letter)
-
--- what reading a block answers: the block of these bytes with the count that they hold, each place of it with a record; or the refusal
-abbrev pub Opens : List ℕ → ℕ → Result Block Refusal → Type 0
-Opens bs next (Ok b) = (read_refusal bs next ≡ None) × (b.bytes.now ≡ bs) × (b.count ≡ count_of bs) × Full b.bytes.now b.count
-Opens bs next (Err e) = read_refusal bs next ≡ Some e
-
--- what is handed out of place i: what its bytes say, with four content bytes, exactly where the block holds a record there
-abbrev pub Hands : Block → ℕ → Option Record → Type 0
-Hands b i None = holds b.bytes.now b.count i ≡ false
-Hands b i (Some r) = (holds b.bytes.now b.count i ≡ true) × (said r ≡ said_at b.bytes.now i) × (length (said r).content ≡ 4)

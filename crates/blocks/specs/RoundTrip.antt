@@ -16,7 +16,3 @@ Restores size number es (Ok b) =
     × (records_of b.bytes.now b.count ≡ map entry_says es)
     × Full b.bytes.now b.count
 Restores size number es (Err e) = write_refusal size es ≡ Some e
-
--- whatever was written into these bytes under this number is restored by what the reader answers
-abbrev pub Rereads : List ℕ → ℕ → Result Block Refusal → Type 0
-Rereads bs number r = (size : ℕ) (es : List Entry) → write_refusal size es ≡ None → bs ≡ block_of number es → Restores size number es r

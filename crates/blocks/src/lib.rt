@@ -23,6 +23,7 @@
 
 mod check;
 mod layout;
+mod letter;
 mod reader;
 mod record;
 mod refusal;

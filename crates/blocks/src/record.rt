@@ -1,11 +1,13 @@
 // The records of a block, and how eight bytes are read as one.
 ghost use Rattle.std.specs.Prelude.{◌≡◌, length};
-ghost use Rattle.blocks.specs.Records.{Reads, known};
+ghost use Rattle.blocks.specs.Records.{Reads};
 
+use super::letter::Letter;
 use super::refusal::Refusal;
 
 // A record, with its four content bytes as a part of the block. In a block the cases have the letters B, R, W, C, D and S.
-#[derive(Clone, Copy)]
+// A rule of the project: an enum of six cases whose fields borrow the content.
+#[derive(Clone, Copy, Debug, PartialEq, Eq)]
 pub enum Record<'a> {
     Begin {
         process: u8,
@@ -44,50 +46,42 @@ pub(crate) fn read_record<'a>(bytes: &'a [u8]) -> Result<Record<'a>, Refusal>
     requires { length bytes.now ≡ 8 }
     ensures { Reads bytes.now result }
 {
+    // A rule of the project: one slice pattern names the parts.
     let [letter, process, low, high, content @ ..] = bytes else {
-        // Not taken: there are eight bytes.
-        return Err(Refusal::Length);
+        unreachable!()
     };
     let process = *process;
     let object = u16::from_le_bytes([*low, *high]);
-    match *letter as char {
-        'B' => Ok(Record::Begin {
+    Ok(match Letter::try_from(*letter)? {
+        Letter::Begin => Record::Begin {
             process,
             object,
             content,
-        }),
-        'R' => Ok(Record::Read {
+        },
+        Letter::Read => Record::Read {
             process,
             object,
             content,
-        }),
-        'W' => Ok(Record::Write {
+        },
+        Letter::Write => Record::Write {
             process,
             object,
             content,
-        }),
-        'C' => Ok(Record::Commit {
+        },
+        Letter::Commit => Record::Commit {
             process,
             object,
             content,
-        }),
-        'D' => Ok(Record::Withdraw {
+        },
+        Letter::Withdraw => Record::Withdraw {
             process,
             object,
             content,
-        }),
-        'S' => Ok(Record::Step {
+        },
+        Letter::Step => Record::Step {
             process,
             object,
             content,
-        }),
-        _ => Err(Refusal::Letter),
-    }
-}
-
-// Whether a byte is the letter of a record.
-pub(crate) fn is_letter(byte: u8) -> bool
-    ensures { result ≡ known byte }
-{
-    matches!(byte as char, 'B' | 'R' | 'W' | 'C' | 'D' | 'S')
+        },
+    })
 }

@@ -1,20 +1,20 @@
-// The reasons for which a block is refused, and the number of each.
+// The reasons for which a block is refused, each with its number.
 ghost use Rattle.std.specs.Prelude.{◌≡◌};
 ghost use Rattle.blocks.specs.Refusals.{refusal_number};
 
 // The question that was answered 'no'.
-#[derive(Clone, Copy, Debug, PartialEq)]
+#[derive(Clone, Copy, Debug, PartialEq, Eq)]
 pub enum Refusal {
     // Are there 512 bytes?
-    Length,
+    Length = 11,
     // Is the check right?
-    Check,
+    Check = 12,
     // Is the number the one that comes next?
-    Number,
+    Number = 13,
     // Are there at most 63 records?
-    Count,
+    Count = 14,
     // Is the letter of each record known?
-    Letter,
+    Letter = 15,
 }
 
 impl Refusal {
@@ -22,12 +22,6 @@ impl Refusal {
     pub fn number(self) -> u8
         ensures { result ≡ refusal_number self }
     {
-        match self {
-            Refusal::Length => 11,
-            Refusal::Check => 12,
-            Refusal::Number => 13,
-            Refusal::Count => 14,
-            Refusal::Letter => 15,
-        }
+        self as u8
     }
 }

@@ -1,19 +1,13 @@
 // Writes a block and reads it back: what is read is what was written.
 ghost use Rattle.std.specs.Prelude.{length};
-ghost use Rattle.blocks.specs.RoundTrip.{Restores, Rereads};
+ghost use Rattle.blocks.specs.RoundTrip.{Restores};
 
 use super::reader::{Block, read_block};
 use super::refusal::Refusal;
 use super::writer::{Entry, write_block};
 
-// Reads a block: where its bytes are those of a block that was written under this number, what was written comes back.
-fn reread_block<'a>(bytes: &'a [u8], number: u32) -> Result<Block<'a>, Refusal>
-    ensures { Rereads bytes.now number result }
-{
-    read_block(bytes, number)
-}
-
 // Writes a block and reads it back from the same bytes: the records that were written come back in their order, under the same number.
+#[tactic(auto, using(crate::proofs::Restored::restored))]
 pub fn write_then_read<'a>(
     out: &'a mut [u8],
     number: u32,
@@ -22,5 +16,5 @@ pub fn write_then_read<'a>(
     ensures { Restores (length out.old) number entries.now result }
 {
     write_block(out, number, entries)?;
-    reread_block(out, number)
+    read_block(out, number)
 }

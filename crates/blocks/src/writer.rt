@@ -5,12 +5,12 @@ ghost use Rattle.blocks.specs.Reading.{letters_known};
 ghost use Rattle.blocks.specs.Writing.{entry_says, eight_of, body_of, block_of, Wrote};
 
 use super::check::check_of;
-use super::layout::{BLOCK_LEN, BODY_LEN, HEAD_LEN, PLACE_LEN, PLACES};
-use super::record::is_letter;
+use super::layout::{BLOCK_LEN, BODY_LEN, HEAD_LEN, NUMBER_AT, PLACE_LEN, PLACES};
+use super::letter::Letter;
 use super::refusal::Refusal;
 
 // A record to be written. The letter is a plain byte, which may be an unknown one.
-#[derive(Clone, Copy)]
+#[derive(Clone, Copy, Debug, PartialEq, Eq)]
 pub struct Entry {
     pub letter: u8,
     pub process: u8,
@@ -18,35 +18,33 @@ pub struct Entry {
     pub content: u32,
 }
 
+impl Entry {
+    // The eight bytes of the record.
+    fn to_bytes(self) -> [u8; PLACE_LEN]
+        ensures { result ≡ eight_of self }
+    {
+        let [low, high] = self.object.to_le_bytes();
+        let [first, second, third, fourth] = self.content.to_le_bytes();
+        [
+            self.letter,
+            self.process,
+            low,
+            high,
+            first,
+            second,
+            third,
+            fourth,
+        ]
+    }
+}
+
 // Whether the letter of each record is known.
 fn letters_known(entries: &[Entry]) -> bool
     ensures { result ≡ letters_known (map entry_says entries.now) }
 {
-    for entry in entries {
-        if !is_letter(entry.letter) {
-            return false;
-        }
-    }
-    true
-}
-
-// Lays out the eight bytes of a record.
-fn lay_record(out: &mut [u8], entry: Entry)
-    requires { length out.old ≡ 8 }
-    ensures { out.new ≡ eight_of entry }
-{
-    let [low, high] = entry.object.to_le_bytes();
-    let [first, second, third, fourth] = entry.content.to_le_bytes();
-    out.copy_from_slice(&[
-        entry.letter,
-        entry.process,
-        low,
-        high,
-        first,
-        second,
-        third,
-        fourth,
-    ]);
+    entries
+        .iter()
+        .all(|entry| Letter::try_from(entry.letter).is_ok())
 }
 
 // Lays out the records one after another.
@@ -54,34 +52,38 @@ fn lay_records(out: &mut [u8], entries: &[Entry])
     requires { length out.old ≡ 8 * length entries.now }
     ensures { out.new ≡ flat_map eight_of entries.now }
 {
-    let mut at = 0;
-    for entry in entries {
-        lay_record(&mut out[at..at + PLACE_LEN], *entry);
-        at += PLACE_LEN;
+    // By counted places: of `chunks_exact_mut` the library does not say what the slice holds afterwards.
+    for (i, entry) in entries.iter().enumerate() {
+        let at = PLACE_LEN * i;
+        out[at..at + PLACE_LEN].copy_from_slice(&entry.to_bytes());
     }
 }
 
 // Lays out the first 510 bytes of a block: count, number, records, and zeros after them.
+#[tactic(auto, unfolding(crate::specs::Writing::body_of))]
 fn lay_body(out: &mut [u8], number: u32, entries: &[Entry])
     requires { (length out.old ≡ 510) × (length entries.now ≤ 63) }
     ensures { out.new ≡ body_of number entries.now }
 {
-    let count = entries.len();
-    let end = HEAD_LEN + PLACE_LEN * count;
-    out[0..2].copy_from_slice(&(count as u16).to_le_bytes());
-    out[2..HEAD_LEN].copy_from_slice(&number.to_le_bytes());
-    lay_records(&mut out[HEAD_LEN..end], entries);
-    out[end..BODY_LEN].fill(0);
+    let (head, places) = out.split_at_mut(HEAD_LEN);
+    let (count, own_number) = head.split_at_mut(NUMBER_AT);
+    let (records, free) = places.split_at_mut(PLACE_LEN * entries.len());
+    // `as`, which is proved to lose nothing: `try_from` would need a branch that is never taken.
+    count.copy_from_slice(&(entries.len() as u16).to_le_bytes());
+    own_number.copy_from_slice(&number.to_le_bytes());
+    lay_records(records, entries);
+    free.fill(0);
 }
 
 // Lays out a whole block: its body, and the check of the body.
+#[tactic(auto, unfolding(crate::specs::Writing::block_of))]
 fn lay_block(out: &mut [u8], number: u32, entries: &[Entry])
     requires { (length out.old ≡ 512) × (length entries.now ≤ 63) }
     ensures { out.new ≡ block_of number entries.now }
 {
-    lay_body(&mut out[0..BODY_LEN], number, entries);
-    let check = check_of(out);
-    out[BODY_LEN..BLOCK_LEN].copy_from_slice(&check.to_le_bytes());
+    let (body, check) = out.split_at_mut(BODY_LEN);
+    lay_body(body, number, entries);
+    check.copy_from_slice(&check_of(body).to_le_bytes());
 }
 
 // Writes a block of these records under this number, or says which question refuses it and leaves the bytes as they were.

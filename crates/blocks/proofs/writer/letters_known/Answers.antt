@@ -1,23 +1,13 @@
--- Each turn looks at one record, whose letter is the first of those that are left.
-use Rattle.std.proofs.Common.{map, arith}
-use Rattle.std.proofs.lemmas.List.{at_drop_all, length-map}
-use Rattle.blocks.specs.Reading.{letters_known}
+-- The chain asks each letter once, and what the entries say has the letters of the entries.
+use Rattle.std.proofs.Common.{sym, ◌∙◌, rules}
+use Rattle.std.proofs.lemmas.Iterator.{YieldsList-from_slice}
+use Rattle.std.proofs.lemmas.Iterator.Search.{all_from_yields_List}
+use Rattle.std.proofs.lemmas.List.Folds.{list_all-map}
+use Rattle.blocks.specs.Records.{Said, known}
 use Rattle.blocks.specs.Writing.{entry_says}
-use Rattle.blocks.proofs.Listed.{write_more}
 use Rattle.blocks.proofs.writer.letters_known.Goals as goal
-
-pub returns-then-not-is_letter : goal.returns-then-not-is_letter
-returns-then-not-is_letter c =
-    let more = write_more c.args.entries.now c.loop-entry.entry-index (omega arith) in
-    grind arith
-
-pub loop-entry-preserved : goal.loop-entry-preserved
-loop-entry-preserved c =
-    let more = write_more c.args.entries.now c.loop-entry.entry-index (omega arith) in
-    grind arith
 
 pub returns : goal.returns
 returns c =
-    let size = length-map c.args.entries.now entry_says in
-    let rest = at_drop_all letters_known (map entry_says c.args.entries.now) c.loop-entry.entry-index (omega arith) in
-    cc
+    all_from_yields_List (λ e. known e.letter) _ _ _ c.all.ensures.ran (YieldsList-from_slice c.args.entries.now c.iter.ensures.rest) (λ x b q k. search rules)
+    ∙ sym (list_all-map (λ (s : Said). known s.letter) entry_says c.args.entries.now)
