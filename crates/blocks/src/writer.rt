@@ -52,7 +52,7 @@ fn lay_records(out: &mut [u8], entries: &[Entry])
     requires { length out.old ≡ 8 * length entries.now }
     ensures { out.new ≡ flat_map eight_of entries.now }
 {
-    // By counted places: of `chunks_exact_mut` the library does not say what the slice holds afterwards.
+    // By counted places: a loop over `chunks_exact_mut` was tried, of which the library does not say what the slice holds then.
     for (i, entry) in entries.iter().enumerate() {
         let at = PLACE_LEN * i;
         out[at..at + PLACE_LEN].copy_from_slice(&entry.to_bytes());

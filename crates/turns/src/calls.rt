@@ -1,6 +1,7 @@
 // The calls that the records of a turn block ask for.
 ghost use Rattle.std.specs.Prelude.{◌≡◌, ◌<◌, map, IfOk};
-ghost use Rattle.blocks.specs.Reading.{said_at, records_of, Full};
+ghost use Rattle.std.specs.List.{range_with_len};
+ghost use Rattle.blocks.specs.Reading.{said_at, records_of};
 ghost use Rattle.blocks.specs.Records.{said};
 ghost use Rattle.turns.specs.Calls.{number_in, call_of, Called};
 
@@ -71,8 +72,7 @@ pub fn call_for(turn: Record<'_>) -> Call<u32>
 
 // The call that the record in place i of a block asks for.
 fn call_at(block: Block<'_>, i: usize) -> Call<u32>
-    requires full { Full block.bytes.now block.count }
-    requires within { i < block.count }
+    requires { i < block.count }
     ensures { result ≡ call_of (said_at block.entry.bytes.now i) }
 {
     match block.record(i) {
@@ -83,17 +83,13 @@ fn call_at(block: Block<'_>, i: usize) -> Call<u32>
 
 // The calls of a block that was read, in the order of its records.
 fn block_calls(heap: Global, block: Block<'_>) -> Result<Vec<Call<u32>>, AllocError>
-    requires { Full block.bytes.now block.count }
-    ensures { IfOk result (λ v. v.items ≡ map call_of (records_of block.entry.bytes.now block.entry.count)) }
+    ensures { IfOk result (λ v. v.items ≡ map (λ i. call_of (said_at block.entry.bytes.now i)) (range_with_len 0 block.entry.count)) }
 {
-    let mut calls = Vec::new(heap);
-    for i in 0..block.count() {
-        calls.push(call_at(block, i))?;
-    }
-    Ok(calls)
+    (0..block.count()).map(|i| call_at(block, i)).collect(heap)
 }
 
 // The calls of the block in the bytes, where it is number `next`.
+#[tactic(auto, using(crate::proofs::Records::calls_of_records))]
 pub fn calls_in(heap: Global, bytes: &[u8], next: u32) -> Result<Vec<Call<u32>>, BlockError>
     ensures { Called bytes.now next result }
 {
