@@ -5,33 +5,36 @@ ghost use Rattle.engine.specs.Ready.{Ready};
 ghost use Rattle.engine.specs.Look.{judged, looked, pair_looked};
 
 use super::places::{object, read_pair};
-use tables::{Kind, Memory, Object};
+use tables::{Conflict, Kind, Memory, Object};
 
-// What a look finds: another holder, another stamp than the one that was seen, or neither.
-#[derive(Drop)]
-pub enum Look<K> {
-    Held { object: usize },
-    Changed { object: usize },
-    Passes { found: Object<K> },
-}
-
-// How the object x, found as it is, looks to p, which may have seen it at a stamp.
-fn judge<K: Kind>(found: Object<K>, p: usize, x: usize, seen: Option<u64>) -> Look<K>
+// The object x, found as it is, unless another process than p holds it or it has another stamp than the one that p
+// has seen.
+fn judge<K: Kind>(
+    found: Object<K>,
+    p: usize,
+    x: usize,
+    seen: Option<u64>,
+) -> Result<Object<K>, Conflict>
     ensures { result ≡ judged found p x seen }
 {
     if let Some(q) = found.holder
         && q != p
     {
-        return Look::Held { object: x };
+        return Err(Conflict::Held { object: x });
     }
     match seen {
-        Some(stamp) if stamp != found.stamp => Look::Changed { object: x },
-        _ => Look::Passes { found },
+        Some(stamp) if stamp != found.stamp => Err(Conflict::Changed { object: x }),
+        _ => Ok(found),
     }
 }
 
 // A look of p at the object x.
-pub(crate) fn look_at<K: Kind>(memory: &Memory<K>, p: usize, x: usize, seen: Option<u64>) -> Look<K>
+pub(crate) fn look_at<K: Kind>(
+    memory: &Memory<K>,
+    p: usize,
+    x: usize,
+    seen: Option<u64>,
+) -> Result<Object<K>, Conflict>
     requires { x < length (tables_of memory.now).objects }
     ensures { result ≡ looked K.Kind.empty (tables_of memory.now) p x seen }
 {
@@ -39,7 +42,11 @@ pub(crate) fn look_at<K: Kind>(memory: &Memory<K>, p: usize, x: usize, seen: Opt
 }
 
 // A look of p at the object of pair i of its read set.
-pub(crate) fn look_at_pair<K: Kind>(memory: &Memory<K>, p: usize, i: usize) -> Look<K>
+pub(crate) fn look_at_pair<K: Kind>(
+    memory: &Memory<K>,
+    p: usize,
+    i: usize,
+) -> Result<Object<K>, Conflict>
     requires ready { Ready (tables_of memory.now) p }
     requires within { i < 32 }
     requires named { (read_at (tables_of memory.now) p i).object < length (tables_of memory.now).objects }

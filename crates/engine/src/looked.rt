@@ -8,18 +8,18 @@ ghost use Rattle.engine.specs.Looked.{Looks, after_look, read_step, write_step};
 use super::commit::certify;
 use super::ends::stop;
 use super::extend::pass_extension;
-use super::look::{Look, look_at};
+use super::look::look_at;
 use super::places::{read_set, write_set};
 use super::reads::{admit_read, read_pending};
 use super::writes::{hold, rewrite};
-use tables::{Conflict, Kind, Memory, Phase, Stepped};
+use tables::{Conflict, Kind, Memory, Object, Phase, Stepped};
 
 // The rest of a step after its look.
 pub(crate) fn follow_look<K: Kind>(
     memory: &mut Memory<K>,
     p: usize,
     phase: Phase,
-    look: Look<K>,
+    look: Result<Object<K>, Conflict>,
 ) -> Stepped<K>
     requires ready { Ready (tables_of memory.old) p }
     requires looks { Looks (tables_of memory.old) p phase }
@@ -27,10 +27,9 @@ pub(crate) fn follow_look<K: Kind>(
     ensures after { tables_of memory.new ≡ (after_look K.Kind.empty (tables_of memory.old) p phase look).tables }
 {
     match (phase, look) {
-        (_, Look::Held { object }) => stop(memory, p, Conflict::Held { object }),
-        (_, Look::Changed { object }) => stop(memory, p, Conflict::Changed { object }),
-        (Phase::Reading { object }, Look::Passes { found }) => admit_read(memory, p, object, found),
-        (Phase::Writing { object }, Look::Passes { found }) => hold(memory, p, object, found),
+        (_, Err(conflict)) => stop(memory, p, conflict),
+        (Phase::Reading { object }, Ok(found)) => admit_read(memory, p, object, found),
+        (Phase::Writing { object }, Ok(found)) => hold(memory, p, object, found),
         (
             Phase::Extending {
                 object,
@@ -38,12 +37,12 @@ pub(crate) fn follow_look<K: Kind>(
                 next,
                 access,
             },
-            Look::Passes { .. },
+            Ok(_),
         ) => pass_extension(memory, p, object, to, next, access),
-        (Phase::Certifying { next }, Look::Passes { .. }) => certify(memory, p, next),
+        (Phase::Certifying { next }, Ok(_)) => certify(memory, p, next),
         (
             Phase::Idle | Phase::Beginning { .. } | Phase::Storing { .. } | Phase::Freeing { .. },
-            Look::Passes { .. },
+            Ok(_),
         ) => unreachable(),
     }
 }

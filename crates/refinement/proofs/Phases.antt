@@ -1,5 +1,5 @@
 -- Every step and every placing keeps a memory good.
-use Rattle.std.proofs.Common.{◌≡◌, ℕ, ◌+◌, ◌-◌, ◌^◌, ◌<◌, ◌≤◌, min, max, Bool, true, false, cond, ◌&&◌, ◌||◌, eqb, ltb, leb, ◌⊎◌, List, length, is_some, Some, None, Option, sym, refl, ap, ◌∙◌, subst, inl, inr, arith}
+use Rattle.std.proofs.Common.{◌≡◌, ℕ, ◌+◌, ◌-◌, ◌^◌, ◌<◌, ◌≤◌, min, max, Bool, true, false, cond, ◌&&◌, ◌||◌, eqb, ltb, leb, ◌⊎◌, List, length, is_some, Some, None, Option, Result, sym, refl, ap, ◌∙◌, subst, inl, inr, arith}
 use Rattle.std.proofs.lemmas.Bool.{and_parts, and_from, leb-true, le-leb, ltb-true, eqb-false, cond_both}
 use Rattle.std.proofs.lemmas.Bool.Decides.{nat_tests}
 use Rattle.std.proofs.lemmas.List.{length-set}
@@ -12,8 +12,8 @@ use Rattle.tables.specs.declared.process.Access.TheVariants as access
 use Rattle.tables.specs.declared.process.Ending.{Ending}
 use Rattle.tables.specs.declared.process.Phase.{Phase}
 use Rattle.tables.specs.declared.process.Phase.TheVariants.{Idle, Beginning, Reading, Writing, Extending, Certifying, Storing, Freeing}
+use Rattle.tables.specs.declared.reply.Conflict.{Conflict}
 use Rattle.tables.specs.declared.reply.Conflict.TheVariants as conflict
-use Rattle.engine.specs.declared.look.Look.{Look}
 use Rattle.engine.specs.Outcome.{Outcome, advanced, completed}
 use Rattle.engine.specs.Look.{foreign, differs, judged, pair_looked}
 use Rattle.engine.specs.Ends.{unheld_object, released, free_step}
@@ -46,9 +46,9 @@ module _ {K : Type 0} (e : K) (t : Tables K) (p : ℕ) (g : Good e t) (l : p < l
   -- a step that looks at the object x, found as o
   looks : (f : Phase) (o : Object K) (x : ℕ) (seen : Option ℕ) → x < length t.objects → (process_at t p).steps + 1 + (process_at t p).writes ≤ 49 → Good e (passed e t p f o).tables → Good e (after_look e t p f (judged o p x seen)).tables
   looks f o x seen hx few h =
-      cond_both (foreign o.holder p) _ _ (λ (z : Look K). Good e (after_look e t p f z).tables)
+      cond_both (foreign o.holder p) _ _ (λ (z : Result (Object K) Conflict). Good e (after_look e t p f z).tables)
       (λ _. stops e t p g l (conflict.Held x) hx few)
-      (λ _. cond_both (differs seen o.stamp) _ _ (λ (z : Look K). Good e (after_look e t p f z).tables)
+      (λ _. cond_both (differs seen o.stamp) _ _ (λ (z : Result (Object K) Conflict). Good e (after_look e t p f z).tables)
       (λ _. stops e t p g l (conflict.Changed x) hx few)
       (λ _. h))
 

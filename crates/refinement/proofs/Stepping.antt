@@ -1,9 +1,10 @@
 -- Every step is a lawful block of events of the protocol, by its phase and its reply.
-use Rattle.std.proofs.Common.{◌≡◌, ℕ, ◌+◌, ◌*◌, ◌^◌, ◌<◌, ◌≤◌, min, max, Bool, true, false, cond, not, ◌&&◌, ◌||◌, eqb, ltb, leb, ◌⊎◌, List, [], ◌∷◌, length, is_some, Some, None, Ok, Option, sym, refl, ap, ◌∙◌, subst, inl, inr, arith}
+use Rattle.std.proofs.Common.{◌≡◌, ℕ, ◌+◌, ◌*◌, ◌^◌, ◌<◌, ◌≤◌, min, max, Bool, true, false, cond, not, ◌&&◌, ◌||◌, eqb, ltb, leb, ◌⊎◌, List, [], ◌∷◌, length, is_some, Some, None, Ok, Option, Result, sym, refl, ap, ◌∙◌, subst, inl, inr, arith}
 use Rattle.std.proofs.lemmas.Bool.{cases_Bool, eqb-true, eqb-false, and_parts, or_parts, eq-eqb, cond_both, leb-true, leb-false, ltb-true, ltb-false}
 use Rattle.tables.specs.Lookup.{pair, value_of, place_of}
 use Rattle.tables.specs.Tables.{Tables, process_at, object_at, hand_at, read_at, write_at, read_set, write_set, with_process, with_object, with_hand, with_read, with_write}
 use Rattle.tables.specs.declared.map.Slot.{Slot}
+use Rattle.tables.specs.declared.memory.Object.{Object}
 use Rattle.tables.specs.declared.process.Access.{Access}
 use Rattle.tables.specs.declared.process.Access.TheVariants as access
 use Rattle.tables.specs.declared.process.Ending.{Ending}
@@ -18,7 +19,6 @@ use Rattle.tables.specs.declared.reply.Effect.TheVariants.{Nothing, Took, Sealed
 use Rattle.tables.specs.declared.reply.Request.{Request}
 use Rattle.tables.specs.declared.reply.Request.TheVariants as ask
 use Rattle.tables.specs.declared.reply.Stepped.{Stepped}
-use Rattle.engine.specs.declared.look.Look.{Look}
 use Rattle.engine.specs.Outcome.{Outcome, outcome, answering, accepted, advanced, completed}
 use Rattle.engine.specs.Look.{foreign, differs, judged, pair_looked}
 use Rattle.engine.specs.Ends.{ending_answer, stopped, unheld_object, released, free_step}
@@ -140,9 +140,9 @@ module _ {K : Type 0} (e : K) (number : ℕ → ℕ) (t : Tables K) (s : State K
       → (foreign (object_at e t x).holder p ≡ false → differs o (object_at e t x).stamp ≡ false → Here f (passed e t p f (object_at e t x)))
       → Here f (after_look e t p f (judged (object_at e t x) p x o))
   looks f x o new none runs changed ok =
-      cond_both (foreign (object_at e t x).holder p) _ _ (λ (k : Look K). Here f (after_look e t p f k))
+      cond_both (foreign (object_at e t x).holder p) _ _ (λ (k : Result (Object K) Conflict). Here f (after_look e t p f k))
       (λ b. stops f (conflict.Held x) new (why_held x b) runs none)
-      (λ b. cond_both (differs o (object_at e t x).stamp) _ _ (λ (k : Look K). Here f (after_look e t p f k))
+      (λ b. cond_both (differs o (object_at e t x).stamp) _ _ (λ (k : Result (Object K) Conflict). Here f (after_look e t p f k))
       (λ c. stops f (conflict.Changed x) new (changed c) runs none)
       (λ c. ok b c))
 
