@@ -127,3 +127,7 @@ phase_facts e t p (Certifying next) h = tt
 phase_facts e t p (Storing next) h = store_facts next (process_at t p).writes h
 phase_facts e t p (Freeing next a) h =
     free_facts next (process_at t p).writes (ending_ok e t.objects (length t.processes) a) h
+
+-- the record of p, whose tests have all passed
+pub sound_record : {K : Type 0} (e : K) (t : Tables K) (p : ℕ) (f : Phase) → sizes_ok t ≡ true → p < length t.processes → counts_ok (process_at t p) ≡ true → sets_ok e t p ≡ true → phase_ok e t p (process_at t p) f ≡ true → Sound e t p × PhaseFacts t p f
+sound_record e t p f h l c s k = (sound_facts e t p (ready t p h l c) s, phase_facts e t p f k)

@@ -4,6 +4,7 @@ ghost use Rattle.tables.specs.Tables.{tables_of};
 ghost use Rattle.engine.specs.Ready.{Ready};
 ghost use Rattle.engine.specs.Begin.{begin_step};
 
+use super::outcome::{answering, going};
 use super::places::{complete, go_on, process};
 use banks::Bank;
 use tables::{Answer, Effect, Kind, Memory, Phase, Stepped};
@@ -25,10 +26,7 @@ pub(crate) fn begin_step<K: Kind, B: Bank>(
     let steps = process(memory, p).steps + 1;
     if next + 1 == memory.processes.len() {
         complete(memory, p, low);
-        return Stepped {
-            effect: Effect::Nothing,
-            answer: Some(Answer::Begun { steps }),
-        };
+        return answering(Effect::Nothing, Answer::Begun { steps });
     }
     go_on(
         memory,
@@ -38,8 +36,5 @@ pub(crate) fn begin_step<K: Kind, B: Bank>(
             least: low,
         },
     );
-    Stepped {
-        effect: Effect::Nothing,
-        answer: None,
-    }
+    going(Effect::Nothing)
 }

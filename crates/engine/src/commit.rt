@@ -5,6 +5,7 @@ ghost use Rattle.engine.specs.Ready.{Ready};
 ghost use Rattle.engine.specs.Commit.{committed, certified, seal_stamp, sealed_at, sealed_bank, store_step};
 
 use super::ends::{end, stop};
+use super::outcome::{answering, going};
 use super::places::{go_on, process, set_object, write_pair};
 use banks::{Bank, LARGEST};
 use tables::{Answer, Conflict, Effect, Kind, Memory, Object, Phase, Stepped};
@@ -17,10 +18,7 @@ pub(crate) fn finish_commit<K: Kind>(memory: &mut Memory<K>, p: usize, effect: E
 {
     let steps = process(memory, p).steps + 1;
     end(memory, p);
-    Stepped {
-        effect,
-        answer: Some(Answer::Committed { steps }),
-    }
+    answering(effect, Answer::Committed { steps })
 }
 
 // Certification's look at pair `next` has passed.
@@ -35,10 +33,7 @@ pub(crate) fn certify<K: Kind>(memory: &mut Memory<K>, p: usize, next: usize) ->
         return finish_commit(memory, p, Effect::Nothing);
     }
     go_on(memory, p, Phase::Certifying { next: next + 1 });
-    Stepped {
-        effect: Effect::Nothing,
-        answer: None,
-    }
+    going(Effect::Nothing)
 }
 
 // The stamp of a sealing step, if one is left.
@@ -70,10 +65,7 @@ pub(crate) fn seal_step<K: Kind, B: Bank>(
             r.clock = stamp;
             r.steps = before.steps + 1;
             r.phase = Phase::Storing { next: 0 };
-            Stepped {
-                effect: Effect::Sealed,
-                answer: None,
-            }
+            going(Effect::Sealed)
         }
         None => stop(memory, p, Conflict::Spent),
     }
@@ -105,8 +97,5 @@ pub(crate) fn store_step<K: Kind>(memory: &mut Memory<K>, p: usize, next: usize)
         return finish_commit(memory, p, effect);
     }
     go_on(memory, p, Phase::Storing { next: next + 1 });
-    Stepped {
-        effect,
-        answer: None,
-    }
+    going(effect)
 }

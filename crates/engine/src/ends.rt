@@ -5,6 +5,7 @@ ghost use Rattle.tables.specs.Tables.{tables_of, process_at, write_at};
 ghost use Rattle.engine.specs.Ready.{Ready};
 ghost use Rattle.engine.specs.Ends.{wiped, ended, ending_answer, given_up, stopped, released, freed, free_step};
 
+use super::outcome::{answering, going};
 use super::places::{go_on, object, process, set_object, write_pair};
 use tables::{
     Answer, Conflict, Effect, Ending, Kind, Memory, Phase, READ_PLACES, Slot, Stepped, WRITE_PLACES,
@@ -62,10 +63,7 @@ fn give_up<K: Kind>(memory: &mut Memory<K>, p: usize, ending: Ending, effect: Ef
 {
     let steps = process(memory, p).steps + 1;
     end(memory, p);
-    Stepped {
-        effect,
-        answer: Some(answer_to(ending, steps)),
-    }
+    answering(effect, answer_to(ending, steps))
 }
 
 // A conflict: the transaction is given up, once what it holds is freed.
@@ -79,10 +77,7 @@ pub(crate) fn stop<K: Kind>(memory: &mut Memory<K>, p: usize, conflict: Conflict
         return give_up(memory, p, ending, Effect::Nothing);
     }
     go_on(memory, p, Phase::Freeing { next: 0, ending });
-    Stepped {
-        effect: Effect::Nothing,
-        answer: None,
-    }
+    going(Effect::Nothing)
 }
 
 // Leaves the object x with nobody as its holder.
@@ -122,10 +117,7 @@ fn free_object<K: Kind>(
             ending,
         },
     );
-    Stepped {
-        effect,
-        answer: None,
-    }
+    going(effect)
 }
 
 // A step of a transaction that is given up; with nothing held it only answers.

@@ -4,6 +4,7 @@ ghost use Rattle.tables.specs.Tables.{tables_of, process_at};
 ghost use Rattle.engine.specs.Ready.{Ready, JoinsIn};
 ghost use Rattle.engine.specs.Extend.{extended, extension_passed};
 
+use super::outcome::{answering, going};
 use super::places::{complete, go_on, hand, process};
 use super::reads::join_read;
 use tables::{Access, Answer, Effect, Kind, Memory, Phase, Stepped};
@@ -26,17 +27,11 @@ fn finish_extension<K: Kind>(
         Access::Read => {
             let content = hand(memory, p);
             join_read(memory, p, x, to, to);
-            Stepped {
-                effect: Effect::Nothing,
-                answer: Some(Answer::Read { content, steps }),
-            }
+            answering(Effect::Nothing, Answer::Read { content, steps })
         }
         Access::Write => {
             complete(memory, p, to);
-            Stepped {
-                effect: Effect::Nothing,
-                answer: Some(Answer::Written { steps }),
-            }
+            answering(Effect::Nothing, Answer::Written { steps })
         }
     }
 }
@@ -69,8 +64,5 @@ pub(crate) fn pass_extension<K: Kind>(
             access,
         },
     );
-    Stepped {
-        effect: Effect::Nothing,
-        answer: None,
-    }
+    going(Effect::Nothing)
 }

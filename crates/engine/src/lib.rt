@@ -9,6 +9,7 @@ mod ends;
 mod extend;
 mod look;
 mod looked;
+mod outcome;
 mod places;
 mod placing;
 mod questions;

@@ -1,24 +1,14 @@
 // The placing of a request: it alters the process's own record and hand place only.
-ghost use Rattle.std.specs.Prelude.{◌≡◌, ◌<◌, length};
+ghost use Rattle.std.specs.Prelude.{◌≡◌, ◌<◌, length, Some, None, MatchResult};
 ghost use Rattle.tables.specs.Tables.{tables_of, process_at};
 ghost use Rattle.engine.specs.Ready.{Ready};
-ghost use Rattle.engine.specs.Place.{is_idle, due as is_due, access_no, object_no, request_no, first_phase, handed, place_call};
+ghost use Rattle.engine.specs.Place.{due as is_due, access_no, object_no, request_no, first_phase, handed, place_call};
 
 use super::places::{process, set_hand};
 use super::questions::questions;
 use super::sound::{readable, writable};
 use banks::LARGEST;
 use tables::{Ending, Kind, Memory, Phase, Refusal, Request};
-
-// Is no request in hand?
-fn idle(phase: Phase) -> bool
-    ensures { result ≡ is_idle phase }
-{
-    match phase {
-        Phase::Idle => true,
-        _ => false,
-    }
-}
 
 // Is a transaction open, or for a begin none?
 fn due<K: Kind>(request: Request<K>, live: bool) -> bool
@@ -31,19 +21,23 @@ fn due<K: Kind>(request: Request<K>, live: bool) -> bool
 }
 
 // The questions on an object: is there one, and does its pair fit?
-fn access_question<K: Kind>(memory: &Memory<K>, x: usize, fits: bool) -> Option<Refusal>
-    ensures { result ≡ access_no (tables_of memory.now) x fits }
+fn access_question<K: Kind>(memory: &Memory<K>, x: usize, fits: bool) -> Result<(), Refusal>
+    ensures { MatchResult result (λ _. access_no (tables_of memory.now) x fits ≡ None) (λ e. access_no (tables_of memory.now) x fits ≡ Some e) }
 {
     if x >= memory.objects.len() {
-        return Some(Refusal::Object);
+        return Err(Refusal::Object);
     }
-    if fits { None } else { Some(Refusal::Room) }
+    if fits { Ok(()) } else { Err(Refusal::Room) }
 }
 
 // The questions on the object of a request.
-fn object_question<K: Kind>(memory: &Memory<K>, p: usize, request: Request<K>) -> Option<Refusal>
+fn object_question<K: Kind>(
+    memory: &Memory<K>,
+    p: usize,
+    request: Request<K>,
+) -> Result<(), Refusal>
     requires { Ready (tables_of memory.now) p }
-    ensures { result ≡ object_no (tables_of memory.now) p request }
+    ensures { MatchResult result (λ _. object_no (tables_of memory.now) p request ≡ None) (λ e. object_no (tables_of memory.now) p request ≡ Some e) }
 {
     match request {
         Request::Read { object } => access_question(memory, object, readable(memory, p, object)),
@@ -52,21 +46,25 @@ fn object_question<K: Kind>(memory: &Memory<K>, p: usize, request: Request<K>) -
             object,
             writable(memory, p, object),
         ),
-        _ => None,
+        _ => Ok(()),
     }
 }
 
 // The questions on a request, in their order.
-fn request_question<K: Kind>(memory: &Memory<K>, p: usize, request: Request<K>) -> Option<Refusal>
+fn request_question<K: Kind>(
+    memory: &Memory<K>,
+    p: usize,
+    request: Request<K>,
+) -> Result<(), Refusal>
     requires { Ready (tables_of memory.now) p }
-    ensures { result ≡ request_no (tables_of memory.now) p request }
+    ensures { MatchResult result (λ _. request_no (tables_of memory.now) p request ≡ None) (λ e. request_no (tables_of memory.now) p request ≡ Some e) }
 {
     let r = process(memory, p);
-    if !idle(r.phase) {
-        return Some(Refusal::InHand);
+    if !matches!(r.phase, Phase::Idle) {
+        return Err(Refusal::InHand);
     }
     if !due(request, r.live) {
-        return Some(Refusal::Transaction);
+        return Err(Refusal::Transaction);
     }
     object_question(memory, p, request)
 }
@@ -107,9 +105,7 @@ pub fn place<K: Kind>(memory: &mut Memory<K>, p: usize, request: Request<K>) -> 
     ensures after { tables_of memory.new ≡ (place_call K.Kind.empty (tables_of memory.old) p request).tables }
 {
     questions(memory, p)?;
-    if let Some(refusal) = request_question(memory, p, request) {
-        return Err(refusal);
-    }
+    request_question(memory, p, request)?;
     hand_over(memory, p, request);
     let phase = phase_for(request);
     let r = &mut memory.processes[p];

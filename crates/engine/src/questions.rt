@@ -9,6 +9,7 @@ use super::sound::{counts_fit, phase_fits, sets_fit, sized, steps_fit};
 use tables::{Kind, Memory, Process, Refusal};
 
 // The record of p, or the first question that is answered no.
+#[tactic(auto, unfolding(crate::specs::Sound::refused))]
 pub(crate) fn questions<K: Kind>(memory: &Memory<K>, p: usize) -> Result<Process, Refusal>
     ensures number { MatchResult result (λ _. refused K.Kind.empty (tables_of memory.now) p ≡ None) (λ e. refused K.Kind.empty (tables_of memory.now) p ≡ Some e) }
     ensures is { IfOk result (λ q. q ≡ process_at (tables_of memory.now) p) }
@@ -21,17 +22,13 @@ pub(crate) fn questions<K: Kind>(memory: &Memory<K>, p: usize) -> Result<Process
         return Err(Refusal::Process);
     }
     let r = process(memory, p);
-    if !counts_fit(&r) {
-        return Err(Refusal::Record);
+    if counts_fit(&r)
+        && sets_fit(memory, p)
+        && phase_fits(memory, p, r)
+        && steps_fit(memory, p, r)
+    {
+        Ok(r)
+    } else {
+        Err(Refusal::Record)
     }
-    if !sets_fit(memory, p) {
-        return Err(Refusal::Record);
-    }
-    if !phase_fits(memory, p, r) {
-        return Err(Refusal::Record);
-    }
-    if !steps_fit(memory, p, r) {
-        return Err(Refusal::Record);
-    }
-    Ok(r)
 }

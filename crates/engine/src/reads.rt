@@ -5,6 +5,7 @@ ghost use Rattle.tables.specs.Tables.{tables_of, process_at, read_set};
 ghost use Rattle.engine.specs.Ready.{Ready};
 ghost use Rattle.engine.specs.Reads.{current, joined, pending_read, admitted};
 
+use super::outcome::{answering, going};
 use super::places::{complete, go_on, process, read_set, set_hand, set_read_pair};
 use tables::{Access, Answer, Effect, Kind, Memory, Object, Phase, Process, Slot, Stepped};
 
@@ -24,13 +25,13 @@ pub(crate) fn read_pending<K: Kind>(memory: &mut Memory<K>, p: usize, content: K
     let r = process(memory, p);
     set_hand(memory, p, content);
     complete(memory, p, r.clock);
-    Stepped {
-        effect: Effect::Nothing,
-        answer: Some(Answer::Read {
+    answering(
+        Effect::Nothing,
+        Answer::Read {
             content,
             steps: r.steps + 1,
-        }),
-    }
+        },
+    )
 }
 
 // The read of x is answered at the clock: its pair joins the read set where x is not in it.
@@ -78,13 +79,13 @@ pub(crate) fn admit_read<K: Kind>(
     set_hand(memory, p, content);
     if is_current(&r, found.stamp) {
         join_read(memory, p, x, found.stamp, r.clock.max(found.stamp));
-        return Stepped {
-            effect: Effect::Nothing,
-            answer: Some(Answer::Read {
+        return answering(
+            Effect::Nothing,
+            Answer::Read {
                 content,
                 steps: r.steps + 1,
-            }),
-        };
+            },
+        );
     }
     go_on(
         memory,
@@ -96,8 +97,5 @@ pub(crate) fn admit_read<K: Kind>(
             access: Access::Read,
         },
     );
-    Stepped {
-        effect: Effect::Nothing,
-        answer: None,
-    }
+    going(Effect::Nothing)
 }

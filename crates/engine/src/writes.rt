@@ -4,6 +4,7 @@ ghost use Rattle.tables.specs.Tables.{tables_of, process_at};
 ghost use Rattle.engine.specs.Ready.{Ready};
 ghost use Rattle.engine.specs.Writes.{rewritten, held};
 
+use super::outcome::{answering, going};
 use super::places::{complete, hand, process, set_object, set_write_pair};
 use super::reads::is_current;
 use tables::{Access, Answer, Effect, Kind, Memory, Object, Phase, Slot, Stepped};
@@ -19,10 +20,7 @@ pub(crate) fn rewrite<K: Kind>(memory: &mut Memory<K>, p: usize, x: usize, i: us
     let value = hand(memory, p);
     set_write_pair(memory, p, i, Slot { object: x, value });
     complete(memory, p, r.clock);
-    Stepped {
-        effect: Effect::Nothing,
-        answer: Some(Answer::Written { steps: r.steps + 1 }),
-    }
+    answering(Effect::Nothing, Answer::Written { steps: r.steps + 1 })
 }
 
 // The look of a write has passed: p becomes the holder of x.
@@ -58,10 +56,7 @@ pub(crate) fn hold<K: Kind>(
         r.clock = before.clock.max(found.stamp);
         r.steps = 0;
         r.phase = Phase::Idle;
-        return Stepped {
-            effect,
-            answer: Some(Answer::Written { steps }),
-        };
+        return answering(effect, Answer::Written { steps });
     }
     r.steps = steps;
     r.phase = Phase::Extending {
@@ -70,8 +65,5 @@ pub(crate) fn hold<K: Kind>(
         next: 0,
         access: Access::Write,
     };
-    Stepped {
-        effect,
-        answer: None,
-    }
+    going(effect)
 }
