@@ -16,8 +16,8 @@ fn wipe<V: Copy>(places: &mut Vec<Slot<V>>, at: usize, n: usize, blank: V)
     requires { at + n ≤ vec_len places.old }
     ensures { places.new.items ≡ wiped places.old.items at n (pair 0 blank) }
 {
-    for i in 0..n {
-        places[at + i] = Slot {
+    for place in &mut places[at..at + n] {
+        *place = Slot {
             object: 0,
             value: blank,
         };

@@ -60,37 +60,29 @@ fn is_named<K: Kind>(objects: &[Object<K>], count: usize, x: usize) -> bool
 fn all_named<K: Kind, V: Copy>(objects: &[Object<K>], count: usize, slots: &[Slot<V>]) -> bool
     ensures { result ≡ all_named K.Kind.empty objects.now count slots.now }
 {
-    for slot in slots {
-        if !is_named(objects, count, slot.object) {
-            return false;
-        }
-    }
-    true
+    slots
+        .iter()
+        .all(|slot| is_named(objects, count, slot.object))
 }
 
 // Is each stamp within its limit?
 fn stamps_fit(slots: &[Slot<u64>]) -> bool
     ensures { result ≡ stamps_ok slots.now }
 {
-    for slot in slots {
-        if slot.value > LARGEST {
-            return false;
-        }
-    }
-    true
+    slots.iter().all(|slot| slot.value <= LARGEST)
 }
 
 // Is no object there twice?
 fn all_apart<V: Copy>(slots: &[Slot<V>]) -> bool
     ensures { result ≡ apart slots.now }
 {
-    for (i, slot) in slots.iter().enumerate() {
-        let rest = Map {
-            slots: &slots[i + 1..],
-        };
-        if rest.get(slot.object).is_some() {
+    let mut rest = slots;
+    while let [first, after @ ..] = rest {
+        let later = Map { slots: after };
+        if later.get(first.object).is_some() {
             return false;
         }
+        rest = after;
     }
     true
 }
