@@ -10,6 +10,7 @@ mod extend;
 mod look;
 mod looked;
 mod outcome;
+mod owner;
 mod places;
 mod placing;
 mod questions;

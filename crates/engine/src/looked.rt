@@ -9,7 +9,7 @@ use super::commit::certify;
 use super::ends::stop;
 use super::extend::pass_extension;
 use super::look::look_at;
-use super::places::{read_set, write_set};
+use super::owner::Owner;
 use super::reads::{admit_read, read_pending};
 use super::writes::{hold, rewrite};
 use tables::{Conflict, Kind, Memory, Object, Phase, Stepped};
@@ -55,10 +55,10 @@ pub(crate) fn read_step<K: Kind>(memory: &mut Memory<K>, p: usize, x: usize) -> 
     ensures reply { result ≡ (read_step K.Kind.empty (tables_of memory.old) p x).reply }
     ensures after { tables_of memory.new ≡ (read_step K.Kind.empty (tables_of memory.old) p x).tables }
 {
-    match write_set(memory, p).get(x) {
+    match (Owner { memory, p }).writes().get(x) {
         Some(content) => read_pending(memory, p, content),
         None => {
-            let seen = read_set(memory, p).get(x);
+            let seen = Owner { memory, p }.reads().get(x);
             let look = look_at(memory, p, x, seen);
             follow_look(memory, p, Phase::Reading { object: x }, look)
         }
@@ -73,7 +73,7 @@ pub(crate) fn write_step<K: Kind>(memory: &mut Memory<K>, p: usize, x: usize) ->
     ensures reply { result ≡ (write_step K.Kind.empty (tables_of memory.old) p x).reply }
     ensures after { tables_of memory.new ≡ (write_step K.Kind.empty (tables_of memory.old) p x).tables }
 {
-    match write_set(memory, p).place(x) {
+    match (Owner { memory, p }).writes().place(x) {
         Some(i) => rewrite(memory, p, x, i),
         None => {
             let look = look_at(memory, p, x, None);

@@ -1,10 +1,10 @@
 // The tables by their parts: what each process's record, sets and hand place are, and how one part is changed.
 ghost use Rattle.std.specs.Prelude.{◌≡◌, ◌<◌, length};
-ghost use Rattle.tables.specs.Tables.{tables_of, read_set, write_set, process_at, with_process, object_at, with_object, read_at, with_read, write_at, with_write, hand_at, with_hand};
+ghost use Rattle.tables.specs.Tables.{tables_of, process_at, with_process, object_at, with_object, read_at, with_read, write_at, with_write, hand_at, with_hand};
 ghost use Rattle.engine.specs.Ready.{Ready};
 ghost use Rattle.engine.specs.Outcome.{advanced, completed};
 
-use tables::{Kind, Map, Memory, Object, Phase, Process, READ_PLACES, Slot, WRITE_PLACES, put};
+use tables::{Kind, Memory, Object, Phase, Process, READ_PLACES, Slot, WRITE_PLACES, put};
 
 pub(crate) fn process<K: Kind>(memory: &Memory<K>, p: usize) -> Process
     requires { p < length (tables_of memory.now).processes }
@@ -95,32 +95,4 @@ pub(crate) fn set_write_pair<K: Kind>(memory: &mut Memory<K>, p: usize, i: usize
     ensures { tables_of memory.new ≡ with_write (tables_of memory.old) p i pair }
 {
     put(&mut memory.writes, p * WRITE_PLACES + i, pair);
-}
-
-// The read set of p.
-pub(crate) fn read_set<K: Kind>(memory: &Memory<K>, p: usize) -> Map<'_, u64>
-    requires { Ready (tables_of memory.now) p }
-    ensures slots { result.slots.now ≡ read_set (tables_of memory.now) p }
-    ensures len { length result.slots.now ≡ (process_at (tables_of memory.now) p).reads }
-{
-    let count = process(memory, p).reads;
-    let at = p * READ_PLACES;
-    let all = memory.reads.as_slice();
-    Map {
-        slots: &all[at..at + count],
-    }
-}
-
-// The write set of p.
-pub(crate) fn write_set<K: Kind>(memory: &Memory<K>, p: usize) -> Map<'_, K>
-    requires { Ready (tables_of memory.now) p }
-    ensures slots { result.slots.now ≡ write_set (tables_of memory.now) p }
-    ensures len { length result.slots.now ≡ (process_at (tables_of memory.now) p).writes }
-{
-    let count = process(memory, p).writes;
-    let at = p * WRITE_PLACES;
-    let all = memory.writes.as_slice();
-    Map {
-        slots: &all[at..at + count],
-    }
 }

@@ -1,12 +1,11 @@
 // The placing of a request: it alters the process's own record and hand place only.
 ghost use Rattle.std.specs.Prelude.{◌≡◌, ◌<◌, length, Some, None, MatchResult};
 ghost use Rattle.tables.specs.Tables.{tables_of, process_at};
-ghost use Rattle.engine.specs.Ready.{Ready};
 ghost use Rattle.engine.specs.Place.{due as is_due, access_no, object_no, request_no, first_phase, handed, place_call};
 
-use super::places::{process, set_hand};
+use super::owner::Owner;
+use super::places::set_hand;
 use super::questions::questions;
-use super::sound::{readable, writable};
 use banks::LARGEST;
 use tables::{Ending, Kind, Memory, Phase, Refusal, Request};
 
@@ -20,53 +19,41 @@ fn due<K: Kind>(request: Request<K>, live: bool) -> bool
     }
 }
 
-// The questions on an object: is there one, and does its pair fit?
-fn access_question<K: Kind>(memory: &Memory<K>, x: usize, fits: bool) -> Result<(), Refusal>
-    ensures { MatchResult result (λ _. access_no (tables_of memory.now) x fits ≡ None) (λ e. access_no (tables_of memory.now) x fits ≡ Some e) }
-{
-    if x >= memory.objects.len() {
-        return Err(Refusal::Object);
+impl<K: Kind> Owner<'_, K> {
+    // The questions on an object: is there one, and does its pair fit?
+    fn access_question(&self, x: usize, fits: bool) -> Result<(), Refusal>
+        ensures { MatchResult result (λ _. access_no (tables_of self.now.memory.now) x fits ≡ None) (λ e. access_no (tables_of self.now.memory.now) x fits ≡ Some e) }
+    {
+        if x >= self.memory.objects.len() {
+            return Err(Refusal::Object);
+        }
+        if fits { Ok(()) } else { Err(Refusal::Room) }
     }
-    if fits { Ok(()) } else { Err(Refusal::Room) }
-}
 
-// The questions on the object of a request.
-fn object_question<K: Kind>(
-    memory: &Memory<K>,
-    p: usize,
-    request: Request<K>,
-) -> Result<(), Refusal>
-    requires { Ready (tables_of memory.now) p }
-    ensures { MatchResult result (λ _. object_no (tables_of memory.now) p request ≡ None) (λ e. object_no (tables_of memory.now) p request ≡ Some e) }
-{
-    match request {
-        Request::Read { object } => access_question(memory, object, readable(memory, p, object)),
-        Request::Write { object, .. } => access_question(
-            memory,
-            object,
-            writable(memory, p, object),
-        ),
-        _ => Ok(()),
+    // The questions on the object of a request.
+    fn object_question(&self, request: Request<K>) -> Result<(), Refusal>
+        ensures { MatchResult result (λ _. object_no (tables_of self.now.memory.now) self.now.p request ≡ None) (λ e. object_no (tables_of self.now.memory.now) self.now.p request ≡ Some e) }
+    {
+        match request {
+            Request::Read { object } => self.access_question(object, self.readable(object)),
+            Request::Write { object, .. } => self.access_question(object, self.writable(object)),
+            _ => Ok(()),
+        }
     }
-}
 
-// The questions on a request, in their order.
-fn request_question<K: Kind>(
-    memory: &Memory<K>,
-    p: usize,
-    request: Request<K>,
-) -> Result<(), Refusal>
-    requires { Ready (tables_of memory.now) p }
-    ensures { MatchResult result (λ _. request_no (tables_of memory.now) p request ≡ None) (λ e. request_no (tables_of memory.now) p request ≡ Some e) }
-{
-    let r = process(memory, p);
-    if !matches!(r.phase, Phase::Idle) {
-        return Err(Refusal::InHand);
+    // The questions on a request, in their order.
+    fn request_question(&self, request: Request<K>) -> Result<(), Refusal>
+        ensures { MatchResult result (λ _. request_no (tables_of self.now.memory.now) self.now.p request ≡ None) (λ e. request_no (tables_of self.now.memory.now) self.now.p request ≡ Some e) }
+    {
+        let r = self.record();
+        if !matches!(r.phase, Phase::Idle) {
+            return Err(Refusal::InHand);
+        }
+        if !due(request, r.live) {
+            return Err(Refusal::Transaction);
+        }
+        self.object_question(request)
     }
-    if !due(request, r.live) {
-        return Err(Refusal::Transaction);
-    }
-    object_question(memory, p, request)
 }
 
 // The phase that a request starts in.
@@ -105,7 +92,7 @@ pub fn place<K: Kind>(memory: &mut Memory<K>, p: usize, request: Request<K>) -> 
     ensures after { tables_of memory.new ≡ (place_call K.Kind.empty (tables_of memory.old) p request).tables }
 {
     questions(memory, p)?;
-    request_question(memory, p, request)?;
+    Owner { memory, p }.request_question(request)?;
     hand_over(memory, p, request);
     let phase = phase_for(request);
     let r = &mut memory.processes[p];

@@ -4,8 +4,9 @@ ghost use Rattle.tables.specs.Tables.{tables_of, process_at};
 ghost use Rattle.engine.specs.Ready.{Sound, PhaseFacts};
 ghost use Rattle.engine.specs.Sound.{refused};
 
+use super::owner::Owner;
 use super::places::process;
-use super::sound::{counts_fit, phase_fits, sets_fit, sized, steps_fit};
+use super::sound::{counts_fit, sized};
 use tables::{Kind, Memory, Process, Refusal};
 
 // The record of p, or the first question that is answered no.
@@ -22,11 +23,11 @@ pub(crate) fn questions<K: Kind>(memory: &Memory<K>, p: usize) -> Result<Process
         return Err(Refusal::Process);
     }
     let r = process(memory, p);
-    if counts_fit(&r)
-        && sets_fit(memory, p)
-        && phase_fits(memory, p, r)
-        && steps_fit(memory, p, r)
-    {
+    if !counts_fit(&r) {
+        return Err(Refusal::Record);
+    }
+    let owner = Owner { memory, p };
+    if owner.sets_fit() && owner.phase_fits() && owner.steps_fit() {
         Ok(r)
     } else {
         Err(Refusal::Record)

@@ -6,7 +6,8 @@ ghost use Rattle.engine.specs.Ready.{Ready};
 ghost use Rattle.engine.specs.Reads.{current, joined, pending_read, admitted};
 
 use super::outcome::{answering, going};
-use super::places::{complete, go_on, process, read_set, set_hand, set_read_pair};
+use super::owner::Owner;
+use super::places::{complete, go_on, process, set_hand, set_read_pair};
 use tables::{Access, Answer, Effect, Kind, Memory, Object, Phase, Process, Slot, Stepped};
 
 // Does an access at a stamp need no extension?
@@ -41,7 +42,7 @@ pub(crate) fn join_read<K: Kind>(memory: &mut Memory<K>, p: usize, x: usize, sta
     ensures { tables_of memory.new ≡ joined (tables_of memory.old) p x stamp clock (value_of (read_set (tables_of memory.old) p) x) }
 {
     let count = process(memory, p).reads;
-    match read_set(memory, p).get(x) {
+    match (Owner { memory, p }).reads().get(x) {
         Some(_) => complete(memory, p, clock),
         None => {
             set_read_pair(

@@ -1,0 +1,46 @@
+// A process with its record and its sets.
+ghost use Rattle.std.specs.Prelude.{◌≡◌, length};
+ghost use Rattle.tables.specs.Tables.{tables_of, read_set, write_set, process_at};
+ghost use Rattle.engine.specs.Ready.{Ready};
+
+use tables::{Kind, Map, Memory, Process, READ_PLACES, WRITE_PLACES};
+
+// Process p of a memory that has its sizes, with the counts, clock and steps of its record in range.
+#[derive(Drop)]
+pub(crate) struct Owner<'a, K> {
+    pub(crate) memory: &'a Memory<K>,
+    pub(crate) p: usize,
+    ghost ready: { Ready (tables_of memory.now) p },
+}
+
+impl<'a, K: Kind> Owner<'a, K> {
+    pub(crate) fn record(&self) -> Process
+        ensures { result ≡ process_at (tables_of self.now.memory.now) self.now.p }
+    {
+        self.memory.processes[self.p]
+    }
+
+    // Its read set.
+    pub(crate) fn reads(&self) -> Map<'a, u64>
+        ensures slots { result.slots.now ≡ read_set (tables_of self.now.memory.now) self.now.p }
+        ensures len { length result.slots.now ≡ (process_at (tables_of self.now.memory.now) self.now.p).reads }
+    {
+        let at = self.p * READ_PLACES;
+        let all = self.memory.reads.as_slice();
+        Map {
+            slots: &all[at..at + self.record().reads],
+        }
+    }
+
+    // Its write set.
+    pub(crate) fn writes(&self) -> Map<'a, K>
+        ensures slots { result.slots.now ≡ write_set (tables_of self.now.memory.now) self.now.p }
+        ensures len { length result.slots.now ≡ (process_at (tables_of self.now.memory.now) self.now.p).writes }
+    {
+        let at = self.p * WRITE_PLACES;
+        let all = self.memory.writes.as_slice();
+        Map {
+            slots: &all[at..at + self.record().writes],
+        }
+    }
+}
