@@ -9,6 +9,7 @@ use Rattle.tables.specs.declared.process.Access.{Access}
 use Rattle.tables.specs.declared.process.Access.TheVariants as access
 use Rattle.tables.specs.declared.process.Phase.{Phase}
 use Rattle.tables.specs.declared.process.Phase.TheVariants.{Idle, Beginning, Reading, Writing, Extending, Certifying, Storing, Freeing}
+use Rattle.tables.specs.declared.process.Process.{Process}
 use Rattle.tables.specs.Lookup.{pair, value_of, place_of}
 use Rattle.tables.specs.Tables.{Tables, process_at, read_set, write_set, sizes_ok, blank_object}
 use Rattle.engine.specs.Sound.{named_ok, object_ok, all_named, counts_ok, sets_ok, phase_ok, room, stamps_ok, distinct, access_room, ending_ok}
@@ -128,6 +129,6 @@ phase_facts e t p (Storing next) h = store_facts next (process_at t p).writes h
 phase_facts e t p (Freeing next a) h =
     free_facts next (process_at t p).writes (ending_ok e t.objects (length t.processes) a) h
 
--- the record of p, whose tests have all passed
-pub sound_record : {K : Type 0} (e : K) (t : Tables K) (p : ℕ) (f : Phase) → sizes_ok t ≡ true → p < length t.processes → counts_ok (process_at t p) ≡ true → sets_ok e t p ≡ true → phase_ok e t p (process_at t p) f ≡ true → Sound e t p × PhaseFacts t p f
-sound_record e t p f h l c s k = (sound_facts e t p (ready t p h l c) s, phase_facts e t p f k)
+-- r, the record of p, whose tests have passed
+pub sound_record : {K : Type 0} (e : K) (t : Tables K) (p : ℕ) (r : Process) → r ≡ process_at t p → sizes_ok t ≡ true → p < length t.processes → counts_ok (process_at t p) ≡ true → sets_ok e t p ≡ true → phase_ok e t p (process_at t p) (process_at t p).phase ≡ true → Sound e t p × PhaseFacts t p r.phase
+sound_record e t p r q h l c s f = (sound_facts e t p (ready t p h l c) s, phase_facts e t p r.phase (ap (λ (z : Process). phase_ok e t p (process_at t p) z.phase) q ∙ f))

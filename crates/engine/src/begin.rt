@@ -5,7 +5,7 @@ ghost use Rattle.engine.specs.Ready.{Ready};
 ghost use Rattle.engine.specs.Begin.{begin_step};
 
 use super::outcome::{answering, going};
-use super::places::{complete, go_on, process};
+use super::places::{complete, go_on};
 use banks::Bank;
 use tables::{Answer, Effect, Kind, Memory, Phase, Stepped};
 
@@ -23,7 +23,7 @@ pub(crate) fn begin_step<K: Kind, B: Bank>(
     ensures after { tables_of memory.new ≡ (begin_step (B.Bank.number bank.now) (tables_of memory.old) p next least).tables }
 {
     let low = bank.read(next).min(least);
-    let steps = process(memory, p).steps + 1;
+    let steps = memory.processes[p].steps + 1;
     if next + 1 == memory.processes.len() {
         complete(memory, p, low);
         return answering(Effect::Nothing, Answer::Begun { steps });

@@ -6,9 +6,9 @@ ghost use Rattle.engine.specs.Commit.{committed, certified, seal_stamp, sealed_a
 
 use super::ends::{end, stop};
 use super::outcome::{answering, going};
-use super::places::{go_on, process, set_object, write_pair};
+use super::places::go_on;
 use banks::{Bank, LARGEST};
-use tables::{Answer, Conflict, Effect, Kind, Memory, Object, Phase, Stepped};
+use tables::{Answer, Conflict, Effect, Kind, Memory, Object, Phase, Stepped, WRITE_PLACES};
 
 // Ends the transaction with the answer committed.
 pub(crate) fn finish_commit<K: Kind>(memory: &mut Memory<K>, p: usize, effect: Effect) -> Stepped<K>
@@ -16,7 +16,7 @@ pub(crate) fn finish_commit<K: Kind>(memory: &mut Memory<K>, p: usize, effect: E
     ensures reply { result ≡ (committed K.Kind.empty (tables_of memory.old) p effect).reply }
     ensures after { tables_of memory.new ≡ (committed K.Kind.empty (tables_of memory.old) p effect).tables }
 {
-    let steps = process(memory, p).steps + 1;
+    let steps = memory.processes[p].steps + 1;
     end(memory, p);
     answering(effect, Answer::Committed { steps })
 }
@@ -28,7 +28,7 @@ pub(crate) fn certify<K: Kind>(memory: &mut Memory<K>, p: usize, next: usize) ->
     ensures reply { result ≡ (certified K.Kind.empty (tables_of memory.old) p next).reply }
     ensures after { tables_of memory.new ≡ (certified K.Kind.empty (tables_of memory.old) p next).tables }
 {
-    let r = process(memory, p);
+    let r = memory.processes[p];
     if next + 1 == r.reads && r.writes == 0 {
         return finish_commit(memory, p, Effect::Nothing);
     }
@@ -57,7 +57,7 @@ pub(crate) fn seal_step<K: Kind, B: Bank>(
     ensures after { tables_of memory.new ≡ (sealed_at K.Kind.empty (tables_of memory.old) p (seal_stamp (process_at (tables_of memory.old) p).clock (B.Bank.number bank.old p))).tables }
     ensures bank { bank.new ≡ sealed_bank B.Bank.moved bank.old p (seal_stamp (process_at (tables_of memory.old) p).clock (B.Bank.number bank.old p)) }
 {
-    let before = process(memory, p);
+    let before = memory.processes[p];
     match stamp_for(before.clock, bank.read(p)) {
         Some(stamp) => {
             bank.move_to(p, stamp);
@@ -79,17 +79,13 @@ pub(crate) fn store_step<K: Kind>(memory: &mut Memory<K>, p: usize, next: usize)
     ensures reply { result ≡ (store_step K.Kind.empty (tables_of memory.old) p next).reply }
     ensures after { tables_of memory.new ≡ (store_step K.Kind.empty (tables_of memory.old) p next).tables }
 {
-    let r = process(memory, p);
-    let pair = write_pair(memory, p, next);
-    set_object(
-        memory,
-        pair.object,
-        Object {
-            content: pair.value.copied(),
-            stamp: r.clock,
-            holder: None,
-        },
-    );
+    let r = memory.processes[p];
+    let pair = memory.writes[p * WRITE_PLACES + next];
+    memory.objects[pair.object] = Object {
+        content: pair.value.copied(),
+        stamp: r.clock,
+        holder: None,
+    };
     let effect = Effect::Stored {
         object: pair.object,
     };

@@ -6,7 +6,7 @@ ghost use Rattle.engine.specs.Ready.{Ready};
 ghost use Rattle.engine.specs.Ends.{wiped, ended, ending_answer, given_up, stopped, released, freed, free_step};
 
 use super::outcome::{answering, going};
-use super::places::{go_on, object, process, set_object, write_pair};
+use super::places::go_on;
 use tables::{
     Answer, Conflict, Effect, Ending, Kind, Memory, Phase, READ_PLACES, Slot, Stepped, WRITE_PLACES,
 };
@@ -61,7 +61,7 @@ fn give_up<K: Kind>(memory: &mut Memory<K>, p: usize, ending: Ending, effect: Ef
     ensures reply { result ≡ (given_up K.Kind.empty (tables_of memory.old) p ending effect).reply }
     ensures after { tables_of memory.new ≡ (given_up K.Kind.empty (tables_of memory.old) p ending effect).tables }
 {
-    let steps = process(memory, p).steps + 1;
+    let steps = memory.processes[p].steps + 1;
     end(memory, p);
     answering(effect, answer_to(ending, steps))
 }
@@ -73,7 +73,7 @@ pub(crate) fn stop<K: Kind>(memory: &mut Memory<K>, p: usize, conflict: Conflict
     ensures after { tables_of memory.new ≡ (stopped K.Kind.empty (tables_of memory.old) p conflict).tables }
 {
     let ending = Ending::Abort { conflict };
-    if process(memory, p).writes == 0 {
+    if memory.processes[p].writes == 0 {
         return give_up(memory, p, ending, Effect::Nothing);
     }
     go_on(memory, p, Phase::Freeing { next: 0, ending });
@@ -85,9 +85,7 @@ fn release<K: Kind>(memory: &mut Memory<K>, x: usize)
     requires { x < length (tables_of memory.old).objects }
     ensures { tables_of memory.new ≡ released K.Kind.empty (tables_of memory.old) x }
 {
-    let mut o = object(memory, x);
-    o.holder = None;
-    set_object(memory, x, o);
+    memory.objects[x].holder = None;
 }
 
 // Frees the object of pair `next` of the write set.
@@ -106,7 +104,7 @@ fn free_object<K: Kind>(
 {
     release(memory, x);
     let effect = Effect::Freed { object: x };
-    if next + 1 == process(memory, p).writes {
+    if next + 1 == memory.processes[p].writes {
         return give_up(memory, p, ending, effect);
     }
     go_on(
@@ -133,9 +131,9 @@ pub(crate) fn free_step<K: Kind>(
     ensures reply { result ≡ (free_step K.Kind.empty (tables_of memory.old) p next ending).reply }
     ensures after { tables_of memory.new ≡ (free_step K.Kind.empty (tables_of memory.old) p next ending).tables }
 {
-    if process(memory, p).writes == 0 {
+    if memory.processes[p].writes == 0 {
         return give_up(memory, p, ending, Effect::Nothing);
     }
-    let x = write_pair(memory, p, next).object;
+    let x = memory.writes[p * WRITE_PLACES + next].object;
     free_object(memory, p, next, x, ending)
 }

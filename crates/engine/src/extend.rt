@@ -5,7 +5,7 @@ ghost use Rattle.engine.specs.Ready.{Ready, JoinsIn};
 ghost use Rattle.engine.specs.Extend.{extended, extension_passed};
 
 use super::outcome::{answering, going};
-use super::places::{complete, go_on, hand, process};
+use super::places::{complete, go_on};
 use super::reads::join_read;
 use tables::{Access, Answer, Effect, Kind, Memory, Phase, Stepped};
 
@@ -22,10 +22,10 @@ fn finish_extension<K: Kind>(
     ensures reply { result ≡ (extended K.Kind.empty (tables_of memory.old) p x to access).reply }
     ensures after { tables_of memory.new ≡ (extended K.Kind.empty (tables_of memory.old) p x to access).tables }
 {
-    let steps = process(memory, p).steps + 1;
+    let steps = memory.processes[p].steps + 1;
     match access {
         Access::Read => {
-            let content = hand(memory, p);
+            let content = memory.hands[p];
             join_read(memory, p, x, to, to);
             answering(Effect::Nothing, Answer::Read { content, steps })
         }
@@ -51,7 +51,7 @@ pub(crate) fn pass_extension<K: Kind>(
     ensures reply { result ≡ (extension_passed K.Kind.empty (tables_of memory.old) p x to next access).reply }
     ensures after { tables_of memory.new ≡ (extension_passed K.Kind.empty (tables_of memory.old) p x to next access).tables }
 {
-    if next + 1 == process(memory, p).reads {
+    if next + 1 == memory.processes[p].reads {
         return finish_extension(memory, p, x, to, access);
     }
     go_on(

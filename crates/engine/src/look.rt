@@ -4,8 +4,7 @@ ghost use Rattle.tables.specs.Tables.{tables_of, read_at};
 ghost use Rattle.engine.specs.Ready.{Ready};
 ghost use Rattle.engine.specs.Look.{judged, looked, pair_looked};
 
-use super::places::{object, read_pair};
-use tables::{Conflict, Kind, Memory, Object};
+use tables::{Conflict, Kind, Memory, Object, READ_PLACES};
 
 // The object x, found as it is, unless another process than p holds it or it has another stamp than the one that p
 // has seen.
@@ -38,7 +37,7 @@ pub(crate) fn look_at<K: Kind>(
     requires { x < length (tables_of memory.now).objects }
     ensures { result ≡ looked K.Kind.empty (tables_of memory.now) p x seen }
 {
-    judge(object(memory, x), p, x, seen)
+    judge(memory.objects[x], p, x, seen)
 }
 
 // A look of p at the object of pair i of its read set.
@@ -52,6 +51,6 @@ pub(crate) fn look_at_pair<K: Kind>(
     requires named { (read_at (tables_of memory.now) p i).object < length (tables_of memory.now).objects }
     ensures { result ≡ pair_looked K.Kind.empty (tables_of memory.now) p i }
 {
-    let pair = read_pair(memory, p, i);
+    let pair = memory.reads[p * READ_PLACES + i];
     look_at(memory, p, pair.object, Some(pair.value))
 }

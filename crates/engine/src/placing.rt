@@ -4,7 +4,6 @@ ghost use Rattle.tables.specs.Tables.{tables_of, process_at};
 ghost use Rattle.engine.specs.Place.{due as is_due, access_no, object_no, request_no, first_phase, handed, place_call};
 
 use super::owner::Owner;
-use super::places::set_hand;
 use super::questions::questions;
 use banks::LARGEST;
 use tables::{Ending, Kind, Memory, Phase, Refusal, Request};
@@ -81,7 +80,7 @@ fn hand_over<K: Kind>(memory: &mut Memory<K>, p: usize, request: Request<K>)
     ensures { tables_of memory.new ≡ handed (tables_of memory.old) p request }
 {
     match request {
-        Request::Write { content, .. } => set_hand(memory, p, content),
+        Request::Write { content, .. } => memory.hands[p] = content,
         _ => {}
     }
 }

@@ -5,7 +5,6 @@ ghost use Rattle.engine.specs.Ready.{Sound, PhaseFacts};
 ghost use Rattle.engine.specs.Sound.{refused};
 
 use super::owner::Owner;
-use super::places::process;
 use super::sound::{counts_fit, sized};
 use tables::{Kind, Memory, Process, Refusal};
 
@@ -22,13 +21,12 @@ pub(crate) fn questions<K: Kind>(memory: &Memory<K>, p: usize) -> Result<Process
     if p >= memory.processes.len() {
         return Err(Refusal::Process);
     }
-    let r = process(memory, p);
-    if !counts_fit(&r) {
+    if !counts_fit(&memory.processes[p]) {
         return Err(Refusal::Record);
     }
     let owner = Owner { memory, p };
     if owner.sets_fit() && owner.phase_fits() && owner.steps_fit() {
-        Ok(r)
+        Ok(owner.record())
     } else {
         Err(Refusal::Record)
     }

@@ -7,8 +7,10 @@ ghost use Rattle.engine.specs.Reads.{current, joined, pending_read, admitted};
 
 use super::outcome::{answering, going};
 use super::owner::Owner;
-use super::places::{complete, go_on, process, set_hand, set_read_pair};
-use tables::{Access, Answer, Effect, Kind, Memory, Object, Phase, Process, Slot, Stepped};
+use super::places::{complete, go_on};
+use tables::{
+    Access, Answer, Effect, Kind, Memory, Object, Phase, Process, READ_PLACES, Slot, Stepped, put,
+};
 
 // Does an access at a stamp need no extension?
 pub(crate) fn is_current(r: &Process, stamp: u64) -> bool
@@ -23,8 +25,8 @@ pub(crate) fn read_pending<K: Kind>(memory: &mut Memory<K>, p: usize, content: K
     ensures reply { result ≡ (pending_read (tables_of memory.old) p content).reply }
     ensures after { tables_of memory.new ≡ (pending_read (tables_of memory.old) p content).tables }
 {
-    let r = process(memory, p);
-    set_hand(memory, p, content);
+    let r = memory.processes[p];
+    memory.hands[p] = content;
     complete(memory, p, r.clock);
     answering(
         Effect::Nothing,
@@ -41,14 +43,13 @@ pub(crate) fn join_read<K: Kind>(memory: &mut Memory<K>, p: usize, x: usize, sta
     requires room { value_of (read_set (tables_of memory.old) p) x ≡ None → (process_at (tables_of memory.old) p).reads < 32 }
     ensures { tables_of memory.new ≡ joined (tables_of memory.old) p x stamp clock (value_of (read_set (tables_of memory.old) p) x) }
 {
-    let count = process(memory, p).reads;
+    let count = memory.processes[p].reads;
     match (Owner { memory, p }).reads().get(x) {
         Some(_) => complete(memory, p, clock),
         None => {
-            set_read_pair(
-                memory,
-                p,
-                count,
+            put(
+                &mut memory.reads,
+                p * READ_PLACES + count,
                 Slot {
                     object: x,
                     value: stamp,
@@ -75,9 +76,9 @@ pub(crate) fn admit_read<K: Kind>(
     ensures reply { result ≡ (admitted (tables_of memory.old) p x found).reply }
     ensures after { tables_of memory.new ≡ (admitted (tables_of memory.old) p x found).tables }
 {
-    let r = process(memory, p);
+    let r = memory.processes[p];
     let content = found.content.copied();
-    set_hand(memory, p, content);
+    memory.hands[p] = content;
     if is_current(&r, found.stamp) {
         join_read(memory, p, x, found.stamp, r.clock.max(found.stamp));
         return answering(

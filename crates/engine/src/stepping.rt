@@ -11,7 +11,6 @@ use super::commit::{finish_commit, seal_step, store_step};
 use super::ends::free_step;
 use super::look::look_at_pair;
 use super::looked::{follow_look, read_step, write_step};
-use super::places::process;
 use super::questions::questions;
 use banks::Bank;
 use tables::{Effect, Kind, Memory, Phase, Refusal, Stepped};
@@ -29,7 +28,7 @@ fn commit_step<K: Kind, B: Bank>(
     ensures after { tables_of memory.new ≡ (commit_step K.Kind.empty (B.Bank.number bank.old p) (tables_of memory.old) p next).tables }
     ensures bank { bank.new ≡ commit_bank B.Bank.number B.Bank.moved (tables_of memory.old) bank.old p next }
 {
-    let r = process(memory, p);
+    let r = memory.processes[p];
     if next < r.reads {
         let look = look_at_pair(memory, p, next);
         return follow_look(memory, p, Phase::Certifying { next }, look);

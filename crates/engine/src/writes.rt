@@ -5,9 +5,11 @@ ghost use Rattle.engine.specs.Ready.{Ready};
 ghost use Rattle.engine.specs.Writes.{rewritten, held};
 
 use super::outcome::{answering, going};
-use super::places::{complete, hand, process, set_object, set_write_pair};
+use super::places::complete;
 use super::reads::is_current;
-use tables::{Access, Answer, Effect, Kind, Memory, Object, Phase, Slot, Stepped};
+use tables::{
+    Access, Answer, Effect, Kind, Memory, Object, Phase, Slot, Stepped, WRITE_PLACES, put,
+};
 
 // Replaces the pending content in place i, which is that of x.
 pub(crate) fn rewrite<K: Kind>(memory: &mut Memory<K>, p: usize, x: usize, i: usize) -> Stepped<K>
@@ -16,9 +18,13 @@ pub(crate) fn rewrite<K: Kind>(memory: &mut Memory<K>, p: usize, x: usize, i: us
     ensures reply { result ≡ (rewritten K.Kind.empty (tables_of memory.old) p x i).reply }
     ensures after { tables_of memory.new ≡ (rewritten K.Kind.empty (tables_of memory.old) p x i).tables }
 {
-    let r = process(memory, p);
-    let value = hand(memory, p);
-    set_write_pair(memory, p, i, Slot { object: x, value });
+    let r = memory.processes[p];
+    let value = memory.hands[p];
+    put(
+        &mut memory.writes,
+        p * WRITE_PLACES + i,
+        Slot { object: x, value },
+    );
     complete(memory, p, r.clock);
     answering(Effect::Nothing, Answer::Written { steps: r.steps + 1 })
 }
@@ -36,17 +42,17 @@ pub(crate) fn hold<K: Kind>(
     ensures reply { result ≡ (held K.Kind.empty (tables_of memory.old) p x found).reply }
     ensures after { tables_of memory.new ≡ (held K.Kind.empty (tables_of memory.old) p x found).tables }
 {
-    let before = process(memory, p);
-    let value = hand(memory, p);
-    set_object(
-        memory,
-        x,
-        Object {
-            holder: Some(p),
-            ..found
-        },
+    let before = memory.processes[p];
+    let value = memory.hands[p];
+    memory.objects[x] = Object {
+        holder: Some(p),
+        ..found
+    };
+    put(
+        &mut memory.writes,
+        p * WRITE_PLACES + before.writes,
+        Slot { object: x, value },
     );
-    set_write_pair(memory, p, before.writes, Slot { object: x, value });
     let effect = Effect::Took { object: x };
     let steps = before.steps + 1;
     let current = is_current(&before, found.stamp);

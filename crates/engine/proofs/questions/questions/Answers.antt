@@ -5,4 +5,4 @@ use Rattle.engine.proofs.questions.questions.Goals as goal
 
 pub returns-then-steps_fit-clause-sound : goal.returns-then-steps_fit-clause-sound
 returns-then-steps_fit-clause-sound g c =
-    sound_record g.K.Kind.empty (tables_of c.args.memory.now) c.args.p c.process-r.result.phase (sym c.if-not-sized.ensures) (search rules) (search rules) (sym c.if-sets_fit.ensures) (search rules)
+    sound_record g.K.Kind.empty (tables_of c.args.memory.now) c.args.p c.record.result c.record.ensures (sym c.if-not-sized.ensures) (search rules) (search rules) (sym c.if-sets_fit.ensures) (search rules)
