@@ -5,7 +5,7 @@ ghost use Rattle.engine.specs.Ready.{Ready};
 ghost use Rattle.engine.specs.Begin.{begin_step};
 
 use super::outcome::{answering, going};
-use super::places::{complete, go_on};
+use super::record::{complete, go_on};
 use banks::Bank;
 use tables::{Answer, Effect, Kind, Memory, Phase, Stepped};
 
@@ -23,14 +23,14 @@ pub(crate) fn begin_step<K: Kind, B: Bank>(
     ensures after { tables_of memory.new ≡ (begin_step (B.Bank.number bank.now) (tables_of memory.old) p next least).tables }
 {
     let low = bank.read(next).min(least);
-    let steps = memory.processes[p].steps + 1;
-    if next + 1 == memory.processes.len() {
-        complete(memory, p, low);
+    let count = memory.processes.len();
+    let r = &mut memory.processes[p];
+    if next + 1 == count {
+        let steps = complete(r, low);
         return answering(Effect::Nothing, Answer::Begun { steps });
     }
     go_on(
-        memory,
-        p,
+        r,
         Phase::Beginning {
             next: next + 1,
             least: low,

@@ -6,7 +6,7 @@ ghost use Rattle.engine.specs.Commit.{committed, certified, seal_stamp, sealed_a
 
 use super::ends::{end, stop};
 use super::outcome::{answering, going};
-use super::places::go_on;
+use super::record::go_on;
 use banks::{Bank, LARGEST};
 use tables::{Answer, Conflict, Effect, Kind, Memory, Object, Phase, Stepped, WRITE_PLACES};
 
@@ -16,8 +16,7 @@ pub(crate) fn finish_commit<K: Kind>(memory: &mut Memory<K>, p: usize, effect: E
     ensures reply { result ≡ (committed K.Kind.empty (tables_of memory.old) p effect).reply }
     ensures after { tables_of memory.new ≡ (committed K.Kind.empty (tables_of memory.old) p effect).tables }
 {
-    let steps = memory.processes[p].steps + 1;
-    end(memory, p);
+    let steps = end(memory, p);
     answering(effect, Answer::Committed { steps })
 }
 
@@ -32,7 +31,10 @@ pub(crate) fn certify<K: Kind>(memory: &mut Memory<K>, p: usize, next: usize) ->
     if next + 1 == r.reads && r.writes == 0 {
         return finish_commit(memory, p, Effect::Nothing);
     }
-    go_on(memory, p, Phase::Certifying { next: next + 1 });
+    go_on(
+        &mut memory.processes[p],
+        Phase::Certifying { next: next + 1 },
+    );
     going(Effect::Nothing)
 }
 
@@ -57,14 +59,12 @@ pub(crate) fn seal_step<K: Kind, B: Bank>(
     ensures after { tables_of memory.new ≡ (sealed_at K.Kind.empty (tables_of memory.old) p (seal_stamp (process_at (tables_of memory.old) p).clock (B.Bank.number bank.old p))).tables }
     ensures bank { bank.new ≡ sealed_bank B.Bank.moved bank.old p (seal_stamp (process_at (tables_of memory.old) p).clock (B.Bank.number bank.old p)) }
 {
-    let before = memory.processes[p];
-    match stamp_for(before.clock, bank.read(p)) {
+    match stamp_for(memory.processes[p].clock, bank.read(p)) {
         Some(stamp) => {
             bank.move_to(p, stamp);
             let r = &mut memory.processes[p];
             r.clock = stamp;
-            r.steps = before.steps + 1;
-            r.phase = Phase::Storing { next: 0 };
+            go_on(r, Phase::Storing { next: 0 });
             going(Effect::Sealed)
         }
         None => stop(memory, p, Conflict::Spent),
@@ -92,6 +92,6 @@ pub(crate) fn store_step<K: Kind>(memory: &mut Memory<K>, p: usize, next: usize)
     if next + 1 == r.writes {
         return finish_commit(memory, p, effect);
     }
-    go_on(memory, p, Phase::Storing { next: next + 1 });
+    go_on(&mut memory.processes[p], Phase::Storing { next: next + 1 });
     going(effect)
 }

@@ -6,7 +6,7 @@ ghost use Rattle.engine.specs.Ready.{Ready};
 ghost use Rattle.engine.specs.Ends.{wiped, ended, ending_answer, given_up, stopped, released, freed, free_step};
 
 use super::outcome::{answering, going};
-use super::places::go_on;
+use super::record::{complete, go_on};
 use tables::{
     Answer, Conflict, Effect, Ending, Kind, Memory, Phase, READ_PLACES, Slot, Stepped, WRITE_PLACES,
 };
@@ -24,10 +24,11 @@ fn wipe<V: Copy>(places: &mut Vec<Slot<V>>, at: usize, n: usize, blank: V)
     }
 }
 
-// Ends the transaction of p.
-pub(crate) fn end<K: Kind>(memory: &mut Memory<K>, p: usize)
+// Ends the transaction of p. The result is the number of steps that the request took.
+pub(crate) fn end<K: Kind>(memory: &mut Memory<K>, p: usize) -> usize
     requires { Ready (tables_of memory.old) p }
-    ensures { tables_of memory.new ≡ ended K.Kind.empty (tables_of memory.old) p }
+    ensures steps { result ≡ (process_at (tables_of memory.old) p).steps + 1 }
+    ensures after { tables_of memory.new ≡ ended K.Kind.empty (tables_of memory.old) p }
 {
     wipe(&mut memory.reads, p * READ_PLACES, READ_PLACES, 0);
     wipe(
@@ -41,8 +42,8 @@ pub(crate) fn end<K: Kind>(memory: &mut Memory<K>, p: usize)
     r.live = false;
     r.reads = 0;
     r.writes = 0;
-    r.steps = 0;
-    r.phase = Phase::Idle;
+    let clock = r.clock;
+    complete(r, clock)
 }
 
 // The answer that an ending gives.
@@ -61,8 +62,7 @@ fn give_up<K: Kind>(memory: &mut Memory<K>, p: usize, ending: Ending, effect: Ef
     ensures reply { result ≡ (given_up K.Kind.empty (tables_of memory.old) p ending effect).reply }
     ensures after { tables_of memory.new ≡ (given_up K.Kind.empty (tables_of memory.old) p ending effect).tables }
 {
-    let steps = memory.processes[p].steps + 1;
-    end(memory, p);
+    let steps = end(memory, p);
     answering(effect, answer_to(ending, steps))
 }
 
@@ -76,7 +76,7 @@ pub(crate) fn stop<K: Kind>(memory: &mut Memory<K>, p: usize, conflict: Conflict
     if memory.processes[p].writes == 0 {
         return give_up(memory, p, ending, Effect::Nothing);
     }
-    go_on(memory, p, Phase::Freeing { next: 0, ending });
+    go_on(&mut memory.processes[p], Phase::Freeing { next: 0, ending });
     going(Effect::Nothing)
 }
 
@@ -108,8 +108,7 @@ fn free_object<K: Kind>(
         return give_up(memory, p, ending, effect);
     }
     go_on(
-        memory,
-        p,
+        &mut memory.processes[p],
         Phase::Freeing {
             next: next + 1,
             ending,

@@ -5,8 +5,8 @@ ghost use Rattle.engine.specs.Ready.{Ready, JoinsIn};
 ghost use Rattle.engine.specs.Extend.{extended, extension_passed};
 
 use super::outcome::{answering, going};
-use super::places::{complete, go_on};
 use super::reads::join_read;
+use super::record::{complete, go_on};
 use tables::{Access, Answer, Effect, Kind, Memory, Phase, Stepped};
 
 // The last pair has passed: the access to x is completed at the clock `to`.
@@ -22,15 +22,14 @@ fn finish_extension<K: Kind>(
     ensures reply { result ≡ (extended K.Kind.empty (tables_of memory.old) p x to access).reply }
     ensures after { tables_of memory.new ≡ (extended K.Kind.empty (tables_of memory.old) p x to access).tables }
 {
-    let steps = memory.processes[p].steps + 1;
     match access {
         Access::Read => {
             let content = memory.hands[p];
-            join_read(memory, p, x, to, to);
+            let steps = join_read(memory, p, x, to, to);
             answering(Effect::Nothing, Answer::Read { content, steps })
         }
         Access::Write => {
-            complete(memory, p, to);
+            let steps = complete(&mut memory.processes[p], to);
             answering(Effect::Nothing, Answer::Written { steps })
         }
     }
@@ -55,8 +54,7 @@ pub(crate) fn pass_extension<K: Kind>(
         return finish_extension(memory, p, x, to, access);
     }
     go_on(
-        memory,
-        p,
+        &mut memory.processes[p],
         Phase::Extending {
             object: x,
             to,

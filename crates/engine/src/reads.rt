@@ -1,5 +1,5 @@
 // Reading: the content comes from the write set or from a look, and the pair joins the read set.
-ghost use Rattle.std.specs.Prelude.{◌≡◌, ◌<◌, true, None};
+ghost use Rattle.std.specs.Prelude.{◌≡◌, ◌+◌, ◌<◌, None};
 ghost use Rattle.tables.specs.Lookup.{value_of};
 ghost use Rattle.tables.specs.Tables.{tables_of, process_at, read_set};
 ghost use Rattle.engine.specs.Ready.{Ready};
@@ -7,7 +7,7 @@ ghost use Rattle.engine.specs.Reads.{current, joined, pending_read, admitted};
 
 use super::outcome::{answering, going};
 use super::owner::Owner;
-use super::places::{complete, go_on};
+use super::record::{complete, go_on};
 use tables::{
     Access, Answer, Effect, Kind, Memory, Object, Phase, Process, READ_PLACES, Slot, Stepped, put,
 };
@@ -25,27 +25,30 @@ pub(crate) fn read_pending<K: Kind>(memory: &mut Memory<K>, p: usize, content: K
     ensures reply { result ≡ (pending_read (tables_of memory.old) p content).reply }
     ensures after { tables_of memory.new ≡ (pending_read (tables_of memory.old) p content).tables }
 {
-    let r = memory.processes[p];
     memory.hands[p] = content;
-    complete(memory, p, r.clock);
-    answering(
-        Effect::Nothing,
-        Answer::Read {
-            content,
-            steps: r.steps + 1,
-        },
-    )
+    let r = &mut memory.processes[p];
+    let clock = r.clock;
+    let steps = complete(r, clock);
+    answering(Effect::Nothing, Answer::Read { content, steps })
 }
 
-// The read of x is answered at the clock: its pair joins the read set where x is not in it.
-pub(crate) fn join_read<K: Kind>(memory: &mut Memory<K>, p: usize, x: usize, stamp: u64, clock: u64)
+// The read of x is answered at the clock: its pair joins the read set where x is not in it. The result is the number
+// of steps that the request took.
+pub(crate) fn join_read<K: Kind>(
+    memory: &mut Memory<K>,
+    p: usize,
+    x: usize,
+    stamp: u64,
+    clock: u64,
+) -> usize
     requires ready { Ready (tables_of memory.old) p }
     requires room { value_of (read_set (tables_of memory.old) p) x ≡ None → (process_at (tables_of memory.old) p).reads < 32 }
-    ensures { tables_of memory.new ≡ joined (tables_of memory.old) p x stamp clock (value_of (read_set (tables_of memory.old) p) x) }
+    ensures steps { result ≡ (process_at (tables_of memory.old) p).steps + 1 }
+    ensures after { tables_of memory.new ≡ joined (tables_of memory.old) p x stamp clock (value_of (read_set (tables_of memory.old) p) x) }
 {
     let count = memory.processes[p].reads;
     match (Owner { memory, p }).reads().get(x) {
-        Some(_) => complete(memory, p, clock),
+        Some(_) => complete(&mut memory.processes[p], clock),
         None => {
             put(
                 &mut memory.reads,
@@ -56,10 +59,8 @@ pub(crate) fn join_read<K: Kind>(memory: &mut Memory<K>, p: usize, x: usize, sta
                 },
             );
             let r = &mut memory.processes[p];
-            r.clock = clock;
-            r.reads = count + 1;
-            r.steps = 0;
-            r.phase = Phase::Idle;
+            r.reads += 1;
+            complete(r, clock)
         }
     }
 }
@@ -80,18 +81,11 @@ pub(crate) fn admit_read<K: Kind>(
     let content = found.content.copied();
     memory.hands[p] = content;
     if is_current(&r, found.stamp) {
-        join_read(memory, p, x, found.stamp, r.clock.max(found.stamp));
-        return answering(
-            Effect::Nothing,
-            Answer::Read {
-                content,
-                steps: r.steps + 1,
-            },
-        );
+        let steps = join_read(memory, p, x, found.stamp, r.clock.max(found.stamp));
+        return answering(Effect::Nothing, Answer::Read { content, steps });
     }
     go_on(
-        memory,
-        p,
+        &mut memory.processes[p],
         Phase::Extending {
             object: x,
             to: found.stamp,

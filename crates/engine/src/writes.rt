@@ -5,8 +5,8 @@ ghost use Rattle.engine.specs.Ready.{Ready};
 ghost use Rattle.engine.specs.Writes.{rewritten, held};
 
 use super::outcome::{answering, going};
-use super::places::complete;
 use super::reads::is_current;
+use super::record::{complete, go_on};
 use tables::{
     Access, Answer, Effect, Kind, Memory, Object, Phase, Slot, Stepped, WRITE_PLACES, put,
 };
@@ -18,15 +18,16 @@ pub(crate) fn rewrite<K: Kind>(memory: &mut Memory<K>, p: usize, x: usize, i: us
     ensures reply { result ≡ (rewritten K.Kind.empty (tables_of memory.old) p x i).reply }
     ensures after { tables_of memory.new ≡ (rewritten K.Kind.empty (tables_of memory.old) p x i).tables }
 {
-    let r = memory.processes[p];
     let value = memory.hands[p];
     put(
         &mut memory.writes,
         p * WRITE_PLACES + i,
         Slot { object: x, value },
     );
-    complete(memory, p, r.clock);
-    answering(Effect::Nothing, Answer::Written { steps: r.steps + 1 })
+    let r = &mut memory.processes[p];
+    let clock = r.clock;
+    let steps = complete(r, clock);
+    answering(Effect::Nothing, Answer::Written { steps })
 }
 
 // The look of a write has passed: p becomes the holder of x.
@@ -54,22 +55,20 @@ pub(crate) fn hold<K: Kind>(
         Slot { object: x, value },
     );
     let effect = Effect::Took { object: x };
-    let steps = before.steps + 1;
-    let current = is_current(&before, found.stamp);
     let r = &mut memory.processes[p];
-    r.writes = before.writes + 1;
-    if current {
-        r.clock = before.clock.max(found.stamp);
-        r.steps = 0;
-        r.phase = Phase::Idle;
+    r.writes += 1;
+    if is_current(&before, found.stamp) {
+        let steps = complete(r, before.clock.max(found.stamp));
         return answering(effect, Answer::Written { steps });
     }
-    r.steps = steps;
-    r.phase = Phase::Extending {
-        object: x,
-        to: found.stamp,
-        next: 0,
-        access: Access::Write,
-    };
+    go_on(
+        r,
+        Phase::Extending {
+            object: x,
+            to: found.stamp,
+            next: 0,
+            access: Access::Write,
+        },
+    );
     going(effect)
 }
