@@ -8,7 +8,6 @@ ghost use Rattle.engine.specs.Looked.{Looks, after_look, read_step, write_step};
 use super::commit::certify;
 use super::ends::stop;
 use super::extend::pass_extension;
-use super::look::look_at;
 use super::owner::Owner;
 use super::reads::{admit_read, read_pending};
 use super::writes::{hold, rewrite};
@@ -58,8 +57,8 @@ pub(crate) fn read_step<K: Kind>(memory: &mut Memory<K>, p: usize, x: usize) -> 
     match (Owner { memory, p }).writes().get(x) {
         Some(content) => read_pending(memory, p, content),
         None => {
-            let seen = Owner { memory, p }.reads().get(x);
-            let look = look_at(memory, p, x, seen);
+            let owner = Owner { memory, p };
+            let look = owner.look_at(x, owner.reads().get(x));
             follow_look(memory, p, Phase::Reading { object: x }, look)
         }
     }
@@ -76,7 +75,7 @@ pub(crate) fn write_step<K: Kind>(memory: &mut Memory<K>, p: usize, x: usize) ->
     match (Owner { memory, p }).writes().place(x) {
         Some(i) => rewrite(memory, p, x, i),
         None => {
-            let look = look_at(memory, p, x, None);
+            let look = Owner { memory, p }.look_at(x, None);
             follow_look(memory, p, Phase::Writing { object: x }, look)
         }
     }

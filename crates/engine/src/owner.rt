@@ -1,9 +1,9 @@
 // A process with its record and its sets.
-ghost use Rattle.std.specs.Prelude.{◌≡◌, length};
+ghost use Rattle.std.specs.Prelude.{◌≡◌, ◌+◌, ◌*◌, ◌≤◌, length, take, drop};
 ghost use Rattle.tables.specs.Tables.{tables_of, read_set, write_set, process_at};
 ghost use Rattle.engine.specs.Ready.{Ready};
 
-use tables::{Kind, Map, Memory, Process, READ_PLACES, WRITE_PLACES};
+use tables::{Kind, Map, Memory, Process, READ_PLACES, Slot, WRITE_PLACES};
 
 // Process p of a memory that has its sizes, with the counts, clock and steps of its record in range.
 #[derive(Drop)]
@@ -11,6 +11,18 @@ pub(crate) struct Owner<'a, K> {
     pub(crate) memory: &'a Memory<K>,
     pub(crate) p: usize,
     ghost ready: { Ready (tables_of memory.now) p },
+}
+
+// The set of n pairs of process p, in a table in which each process has WIDTH places.
+fn set_of<V, const WIDTH: usize>(places: &[Slot<V>], p: usize, n: usize) -> Map<'_, V>
+    requires { p * WIDTH + n ≤ length places.now }
+    ensures slots { result.slots.now ≡ take n (drop (p * WIDTH) places.now) }
+    ensures len { length result.slots.now ≡ n }
+{
+    let at = p * WIDTH;
+    Map {
+        slots: &places[at..at + n],
+    }
 }
 
 impl<'a, K: Kind> Owner<'a, K> {
@@ -25,11 +37,7 @@ impl<'a, K: Kind> Owner<'a, K> {
         ensures slots { result.slots.now ≡ read_set (tables_of self.now.memory.now) self.now.p }
         ensures len { length result.slots.now ≡ (process_at (tables_of self.now.memory.now) self.now.p).reads }
     {
-        let at = self.p * READ_PLACES;
-        let all = self.memory.reads.as_slice();
-        Map {
-            slots: &all[at..at + self.record().reads],
-        }
+        set_of::<_, READ_PLACES>(&self.memory.reads, self.p, self.record().reads)
     }
 
     // Its write set.
@@ -37,10 +45,6 @@ impl<'a, K: Kind> Owner<'a, K> {
         ensures slots { result.slots.now ≡ write_set (tables_of self.now.memory.now) self.now.p }
         ensures len { length result.slots.now ≡ (process_at (tables_of self.now.memory.now) self.now.p).writes }
     {
-        let at = self.p * WRITE_PLACES;
-        let all = self.memory.writes.as_slice();
-        Map {
-            slots: &all[at..at + self.record().writes],
-        }
+        set_of::<_, WRITE_PLACES>(&self.memory.writes, self.p, self.record().writes)
     }
 }

@@ -9,8 +9,8 @@ ghost use Rattle.engine.specs.Step.{commit_step, commit_bank, phase_step, phase_
 use super::begin::begin_step;
 use super::commit::{finish_commit, seal_step, store_step};
 use super::ends::free_step;
-use super::look::look_at_pair;
 use super::looked::{follow_look, read_step, write_step};
+use super::owner::Owner;
 use super::questions::questions;
 use banks::Bank;
 use tables::{Effect, Kind, Memory, Phase, Refusal, Stepped};
@@ -30,7 +30,7 @@ fn commit_step<K: Kind, B: Bank>(
 {
     let r = memory.processes[p];
     if next < r.reads {
-        let look = look_at_pair(memory, p, next);
+        let look = Owner { memory, p }.look_at_pair(next);
         return follow_look(memory, p, Phase::Certifying { next }, look);
     }
     if r.writes == 0 {
@@ -48,7 +48,7 @@ fn extend_step<K: Kind>(memory: &mut Memory<K>, p: usize, phase: Phase, next: us
     ensures reply { result ≡ (after_look K.Kind.empty (tables_of memory.old) p phase (pair_looked K.Kind.empty (tables_of memory.old) p next)).reply }
     ensures after { tables_of memory.new ≡ (after_look K.Kind.empty (tables_of memory.old) p phase (pair_looked K.Kind.empty (tables_of memory.old) p next)).tables }
 {
-    let look = look_at_pair(memory, p, next);
+    let look = Owner { memory, p }.look_at_pair(next);
     follow_look(memory, p, phase, look)
 }
 
