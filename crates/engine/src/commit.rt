@@ -2,6 +2,7 @@
 ghost use Rattle.std.specs.Prelude.{◌≡◌, ◌^◌, ◌<◌, ◌≤◌, length};
 ghost use Rattle.tables.specs.Tables.{tables_of, process_at, write_at};
 ghost use Rattle.engine.specs.Ready.{Ready};
+ghost use Rattle.engine.specs.Outcome.{outcome};
 ghost use Rattle.engine.specs.Commit.{committed, certified, seal_stamp, sealed_at, sealed_bank, store_step};
 
 use super::ends::{end, stop};
@@ -13,8 +14,7 @@ use tables::{Answer, Conflict, Effect, Kind, Memory, Object, Phase, Stepped, WRI
 // Ends the transaction with the answer committed.
 pub(crate) fn finish_commit<K: Kind>(memory: &mut Memory<K>, p: usize, effect: Effect) -> Stepped<K>
     requires { Ready (tables_of memory.old) p }
-    ensures reply { result ≡ (committed K.Kind.empty (tables_of memory.old) p effect).reply }
-    ensures after { tables_of memory.new ≡ (committed K.Kind.empty (tables_of memory.old) p effect).tables }
+    ensures { outcome result (tables_of memory.new) ≡ committed K.Kind.empty (tables_of memory.old) p effect }
 {
     let steps = end(memory, p);
     answering(effect, Answer::Committed { steps })
@@ -45,7 +45,7 @@ fn stamp_for(clock: u64, number: u64) -> Option<u64>
     ensures { result ≡ seal_stamp clock number }
 {
     let stamp = 1 + clock.max(number);
-    if stamp <= LARGEST { Some(stamp) } else { None }
+    (stamp <= LARGEST).then_some(stamp)
 }
 
 // The sealing step.

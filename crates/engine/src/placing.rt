@@ -79,9 +79,8 @@ fn hand_over<K: Kind>(memory: &mut Memory<K>, p: usize, request: Request<K>)
     requires { p < length (tables_of memory.old).hands }
     ensures { tables_of memory.new ≡ handed (tables_of memory.old) p request }
 {
-    match request {
-        Request::Write { content, .. } => memory.hands[p] = content,
-        _ => {}
+    if let Request::Write { content, .. } = request {
+        memory.hands[p] = content;
     }
 }
 

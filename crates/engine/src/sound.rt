@@ -39,13 +39,7 @@ pub(crate) fn counts_fit(r: &Process) -> bool
 fn object_fits<K: Kind>(o: &Object<K>, count: usize) -> bool
     ensures { result ≡ object_ok o.now count }
 {
-    if o.stamp > LARGEST {
-        return false;
-    }
-    match o.holder {
-        None => true,
-        Some(q) => q < count,
-    }
+    o.stamp <= LARGEST && o.holder.is_none_or(|q| q < count)
 }
 
 // Is each stamp within its limit?
