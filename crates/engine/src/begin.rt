@@ -2,6 +2,7 @@
 ghost use Rattle.std.specs.Prelude.{◌≡◌, ◌<◌, length};
 ghost use Rattle.tables.specs.Tables.{tables_of};
 ghost use Rattle.engine.specs.Ready.{Ready};
+ghost use Rattle.engine.specs.Outcome.{outcome};
 ghost use Rattle.engine.specs.Begin.{begin_step};
 
 use super::outcome::{answering, going};
@@ -19,8 +20,7 @@ pub(crate) fn begin_step<K: Kind, B: Bank>(
 ) -> Stepped<K>
     requires ready { Ready (tables_of memory.old) p }
     requires due { next < length (tables_of memory.old).processes }
-    ensures reply { result ≡ (begin_step (B.Bank.number bank.now) (tables_of memory.old) p next least).reply }
-    ensures after { tables_of memory.new ≡ (begin_step (B.Bank.number bank.now) (tables_of memory.old) p next least).tables }
+    ensures { outcome result (tables_of memory.new) ≡ begin_step (B.Bank.number bank.now) (tables_of memory.old) p next least }
 {
     let low = bank.read(next).min(least);
     let count = memory.processes.len();

@@ -24,8 +24,7 @@ pub(crate) fn finish_commit<K: Kind>(memory: &mut Memory<K>, p: usize, effect: E
 pub(crate) fn certify<K: Kind>(memory: &mut Memory<K>, p: usize, next: usize) -> Stepped<K>
     requires ready { Ready (tables_of memory.old) p }
     requires due { next < (process_at (tables_of memory.old) p).reads }
-    ensures reply { result ≡ (certified K.Kind.empty (tables_of memory.old) p next).reply }
-    ensures after { tables_of memory.new ≡ (certified K.Kind.empty (tables_of memory.old) p next).tables }
+    ensures { outcome result (tables_of memory.new) ≡ certified K.Kind.empty (tables_of memory.old) p next }
 {
     let r = memory.processes[p];
     if next + 1 == r.reads && r.writes == 0 {
@@ -55,8 +54,7 @@ pub(crate) fn seal_step<K: Kind, B: Bank>(
     p: usize,
 ) -> Stepped<K>
     requires { Ready (tables_of memory.old) p }
-    ensures reply { result ≡ (sealed_at K.Kind.empty (tables_of memory.old) p (seal_stamp (process_at (tables_of memory.old) p).clock (B.Bank.number bank.old p))).reply }
-    ensures after { tables_of memory.new ≡ (sealed_at K.Kind.empty (tables_of memory.old) p (seal_stamp (process_at (tables_of memory.old) p).clock (B.Bank.number bank.old p))).tables }
+    ensures after { outcome result (tables_of memory.new) ≡ sealed_at K.Kind.empty (tables_of memory.old) p (seal_stamp (process_at (tables_of memory.old) p).clock (B.Bank.number bank.old p)) }
     ensures bank { bank.new ≡ sealed_bank B.Bank.moved bank.old p (seal_stamp (process_at (tables_of memory.old) p).clock (B.Bank.number bank.old p)) }
 {
     match stamp_for(memory.processes[p].clock, bank.read(p)) {
@@ -76,8 +74,7 @@ pub(crate) fn store_step<K: Kind>(memory: &mut Memory<K>, p: usize, next: usize)
     requires ready { Ready (tables_of memory.old) p }
     requires due { next < (process_at (tables_of memory.old) p).writes }
     requires named { (write_at K.Kind.empty (tables_of memory.old) p next).object < length (tables_of memory.old).objects }
-    ensures reply { result ≡ (store_step K.Kind.empty (tables_of memory.old) p next).reply }
-    ensures after { tables_of memory.new ≡ (store_step K.Kind.empty (tables_of memory.old) p next).tables }
+    ensures { outcome result (tables_of memory.new) ≡ store_step K.Kind.empty (tables_of memory.old) p next }
 {
     let r = memory.processes[p];
     let pair = memory.writes[p * WRITE_PLACES + next];

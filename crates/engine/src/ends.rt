@@ -3,6 +3,7 @@ ghost use Rattle.std.specs.Prelude.{◌≡◌, ◌+◌, ◌<◌, ◌≤◌, leng
 ghost use Rattle.tables.specs.Lookup.{pair};
 ghost use Rattle.tables.specs.Tables.{tables_of, process_at, write_at};
 ghost use Rattle.engine.specs.Ready.{Ready};
+ghost use Rattle.engine.specs.Outcome.{outcome};
 ghost use Rattle.engine.specs.Ends.{wiped, ended, ending_answer, given_up, stopped, released, freed, free_step};
 
 use super::outcome::{answering, going};
@@ -59,8 +60,7 @@ fn answer_to<K: Kind>(ending: Ending, steps: usize) -> Answer<K>
 // Ends the transaction with the answer of an ending.
 fn give_up<K: Kind>(memory: &mut Memory<K>, p: usize, ending: Ending, effect: Effect) -> Stepped<K>
     requires { Ready (tables_of memory.old) p }
-    ensures reply { result ≡ (given_up K.Kind.empty (tables_of memory.old) p ending effect).reply }
-    ensures after { tables_of memory.new ≡ (given_up K.Kind.empty (tables_of memory.old) p ending effect).tables }
+    ensures { outcome result (tables_of memory.new) ≡ given_up K.Kind.empty (tables_of memory.old) p ending effect }
 {
     let steps = end(memory, p);
     answering(effect, answer_to(ending, steps))
@@ -69,8 +69,7 @@ fn give_up<K: Kind>(memory: &mut Memory<K>, p: usize, ending: Ending, effect: Ef
 // A conflict: the transaction is given up, once what it holds is freed.
 pub(crate) fn stop<K: Kind>(memory: &mut Memory<K>, p: usize, conflict: Conflict) -> Stepped<K>
     requires { Ready (tables_of memory.old) p }
-    ensures reply { result ≡ (stopped K.Kind.empty (tables_of memory.old) p conflict).reply }
-    ensures after { tables_of memory.new ≡ (stopped K.Kind.empty (tables_of memory.old) p conflict).tables }
+    ensures { outcome result (tables_of memory.new) ≡ stopped K.Kind.empty (tables_of memory.old) p conflict }
 {
     let ending = Ending::Abort { conflict };
     if memory.processes[p].writes == 0 {
@@ -99,8 +98,7 @@ fn free_object<K: Kind>(
     requires ready { Ready (tables_of memory.old) p }
     requires due { next < (process_at (tables_of memory.old) p).writes }
     requires named { x < length (tables_of memory.old).objects }
-    ensures reply { result ≡ (freed K.Kind.empty (tables_of memory.old) p next x ending).reply }
-    ensures after { tables_of memory.new ≡ (freed K.Kind.empty (tables_of memory.old) p next x ending).tables }
+    ensures { outcome result (tables_of memory.new) ≡ freed K.Kind.empty (tables_of memory.old) p next x ending }
 {
     release(memory, x);
     let effect = Effect::Freed { object: x };
@@ -127,8 +125,7 @@ pub(crate) fn free_step<K: Kind>(
     requires ready { Ready (tables_of memory.old) p }
     requires due { 0 < (process_at (tables_of memory.old) p).writes → next < (process_at (tables_of memory.old) p).writes }
     requires named { next < (process_at (tables_of memory.old) p).writes → (write_at K.Kind.empty (tables_of memory.old) p next).object < length (tables_of memory.old).objects }
-    ensures reply { result ≡ (free_step K.Kind.empty (tables_of memory.old) p next ending).reply }
-    ensures after { tables_of memory.new ≡ (free_step K.Kind.empty (tables_of memory.old) p next ending).tables }
+    ensures { outcome result (tables_of memory.new) ≡ free_step K.Kind.empty (tables_of memory.old) p next ending }
 {
     if memory.processes[p].writes == 0 {
         return give_up(memory, p, ending, Effect::Nothing);

@@ -2,6 +2,7 @@
 ghost use Rattle.std.specs.Prelude.{◌≡◌, ◌<◌};
 ghost use Rattle.tables.specs.Tables.{tables_of, process_at};
 ghost use Rattle.engine.specs.Ready.{Ready, JoinsIn};
+ghost use Rattle.engine.specs.Outcome.{outcome};
 ghost use Rattle.engine.specs.Extend.{extended, extension_passed};
 
 use super::outcome::{answering, going};
@@ -19,8 +20,7 @@ fn finish_extension<K: Kind>(
 ) -> Stepped<K>
     requires ready { Ready (tables_of memory.old) p }
     requires room { JoinsIn (tables_of memory.old) p x access }
-    ensures reply { result ≡ (extended K.Kind.empty (tables_of memory.old) p x to access).reply }
-    ensures after { tables_of memory.new ≡ (extended K.Kind.empty (tables_of memory.old) p x to access).tables }
+    ensures { outcome result (tables_of memory.new) ≡ extended K.Kind.empty (tables_of memory.old) p x to access }
 {
     match access {
         Access::Read => {
@@ -47,8 +47,7 @@ pub(crate) fn pass_extension<K: Kind>(
     requires ready { Ready (tables_of memory.old) p }
     requires due { next < (process_at (tables_of memory.old) p).reads }
     requires room { JoinsIn (tables_of memory.old) p x access }
-    ensures reply { result ≡ (extension_passed K.Kind.empty (tables_of memory.old) p x to next access).reply }
-    ensures after { tables_of memory.new ≡ (extension_passed K.Kind.empty (tables_of memory.old) p x to next access).tables }
+    ensures { outcome result (tables_of memory.new) ≡ extension_passed K.Kind.empty (tables_of memory.old) p x to next access }
 {
     if next + 1 == memory.processes[p].reads {
         return finish_extension(memory, p, x, to, access);

@@ -3,6 +3,7 @@ ghost use Rattle.std.specs.Prelude.{◌≡◌, ◌<◌, length, None};
 ghost use Rattle.tables.specs.Lookup.{value_of, place_of};
 ghost use Rattle.tables.specs.Tables.{tables_of, process_at, read_set, write_set};
 ghost use Rattle.engine.specs.Ready.{Ready};
+ghost use Rattle.engine.specs.Outcome.{outcome};
 ghost use Rattle.engine.specs.Looked.{Looks, after_look, read_step, write_step};
 
 use super::commit::certify;
@@ -22,8 +23,7 @@ pub(crate) fn follow_look<K: Kind>(
 ) -> Stepped<K>
     requires ready { Ready (tables_of memory.old) p }
     requires looks { Looks (tables_of memory.old) p phase }
-    ensures reply { result ≡ (after_look K.Kind.empty (tables_of memory.old) p phase look).reply }
-    ensures after { tables_of memory.new ≡ (after_look K.Kind.empty (tables_of memory.old) p phase look).tables }
+    ensures { outcome result (tables_of memory.new) ≡ after_look K.Kind.empty (tables_of memory.old) p phase look }
 {
     match (phase, look) {
         (_, Err(conflict)) => stop(memory, p, conflict),
@@ -51,8 +51,7 @@ pub(crate) fn read_step<K: Kind>(memory: &mut Memory<K>, p: usize, x: usize) -> 
     requires ready { Ready (tables_of memory.old) p }
     requires object { x < length (tables_of memory.old).objects }
     requires room { value_of (write_set (tables_of memory.old) p) x ≡ None → value_of (read_set (tables_of memory.old) p) x ≡ None → (process_at (tables_of memory.old) p).reads < 32 }
-    ensures reply { result ≡ (read_step K.Kind.empty (tables_of memory.old) p x).reply }
-    ensures after { tables_of memory.new ≡ (read_step K.Kind.empty (tables_of memory.old) p x).tables }
+    ensures { outcome result (tables_of memory.new) ≡ read_step K.Kind.empty (tables_of memory.old) p x }
 {
     match (Owner { memory, p }).writes().get(x) {
         Some(content) => read_pending(memory, p, content),
@@ -69,8 +68,7 @@ pub(crate) fn write_step<K: Kind>(memory: &mut Memory<K>, p: usize, x: usize) ->
     requires ready { Ready (tables_of memory.old) p }
     requires object { x < length (tables_of memory.old).objects }
     requires room { place_of (write_set (tables_of memory.old) p) x 0 ≡ None → (process_at (tables_of memory.old) p).writes < 16 }
-    ensures reply { result ≡ (write_step K.Kind.empty (tables_of memory.old) p x).reply }
-    ensures after { tables_of memory.new ≡ (write_step K.Kind.empty (tables_of memory.old) p x).tables }
+    ensures { outcome result (tables_of memory.new) ≡ write_step K.Kind.empty (tables_of memory.old) p x }
 {
     match (Owner { memory, p }).writes().place(x) {
         Some(i) => rewrite(memory, p, x, i),

@@ -3,6 +3,7 @@ ghost use Rattle.std.specs.Prelude.{◌≡◌, ◌+◌, ◌<◌, None};
 ghost use Rattle.tables.specs.Lookup.{value_of};
 ghost use Rattle.tables.specs.Tables.{tables_of, process_at, read_set};
 ghost use Rattle.engine.specs.Ready.{Ready};
+ghost use Rattle.engine.specs.Outcome.{outcome};
 ghost use Rattle.engine.specs.Reads.{current, joined, pending_read, admitted};
 
 use super::outcome::{answering, going};
@@ -22,8 +23,7 @@ pub(crate) fn is_current(r: &Process, stamp: u64) -> bool
 // Fetches a pending content.
 pub(crate) fn read_pending<K: Kind>(memory: &mut Memory<K>, p: usize, content: K) -> Stepped<K>
     requires { Ready (tables_of memory.old) p }
-    ensures reply { result ≡ (pending_read (tables_of memory.old) p content).reply }
-    ensures after { tables_of memory.new ≡ (pending_read (tables_of memory.old) p content).tables }
+    ensures { outcome result (tables_of memory.new) ≡ pending_read (tables_of memory.old) p content }
 {
     memory.hands[p] = content;
     let r = &mut memory.processes[p];
@@ -74,8 +74,7 @@ pub(crate) fn admit_read<K: Kind>(
 ) -> Stepped<K>
     requires ready { Ready (tables_of memory.old) p }
     requires room { value_of (read_set (tables_of memory.old) p) x ≡ None → (process_at (tables_of memory.old) p).reads < 32 }
-    ensures reply { result ≡ (admitted (tables_of memory.old) p x found).reply }
-    ensures after { tables_of memory.new ≡ (admitted (tables_of memory.old) p x found).tables }
+    ensures { outcome result (tables_of memory.new) ≡ admitted (tables_of memory.old) p x found }
 {
     let r = memory.processes[p];
     let content = found.content.copied();

@@ -2,6 +2,7 @@
 ghost use Rattle.std.specs.Prelude.{◌≡◌, ◌<◌, length};
 ghost use Rattle.tables.specs.Tables.{tables_of, process_at, read_at};
 ghost use Rattle.engine.specs.Ready.{Ready, Sound, PhaseFacts};
+ghost use Rattle.engine.specs.Outcome.{outcome};
 ghost use Rattle.engine.specs.Look.{pair_looked};
 ghost use Rattle.engine.specs.Looked.{Looks, after_look};
 ghost use Rattle.engine.specs.Step.{commit_step, commit_bank, phase_step, phase_bank, step_call, step_bank};
@@ -24,8 +25,7 @@ fn commit_step<K: Kind, B: Bank>(
 ) -> Stepped<K>
     requires ready { Ready (tables_of memory.old) p }
     requires named { next < (process_at (tables_of memory.old) p).reads → (read_at (tables_of memory.old) p next).object < length (tables_of memory.old).objects }
-    ensures reply { result ≡ (commit_step K.Kind.empty (B.Bank.number bank.old p) (tables_of memory.old) p next).reply }
-    ensures after { tables_of memory.new ≡ (commit_step K.Kind.empty (B.Bank.number bank.old p) (tables_of memory.old) p next).tables }
+    ensures after { outcome result (tables_of memory.new) ≡ commit_step K.Kind.empty (B.Bank.number bank.old p) (tables_of memory.old) p next }
     ensures bank { bank.new ≡ commit_bank B.Bank.number B.Bank.moved (tables_of memory.old) bank.old p next }
 {
     let r = memory.processes[p];
@@ -45,8 +45,7 @@ fn extend_step<K: Kind>(memory: &mut Memory<K>, p: usize, phase: Phase, next: us
     requires within { next < 32 }
     requires looks { Looks (tables_of memory.old) p phase }
     requires named { (read_at (tables_of memory.old) p next).object < length (tables_of memory.old).objects }
-    ensures reply { result ≡ (after_look K.Kind.empty (tables_of memory.old) p phase (pair_looked K.Kind.empty (tables_of memory.old) p next)).reply }
-    ensures after { tables_of memory.new ≡ (after_look K.Kind.empty (tables_of memory.old) p phase (pair_looked K.Kind.empty (tables_of memory.old) p next)).tables }
+    ensures { outcome result (tables_of memory.new) ≡ after_look K.Kind.empty (tables_of memory.old) p phase (pair_looked K.Kind.empty (tables_of memory.old) p next) }
 {
     let look = Owner { memory, p }.look_at_pair(next);
     follow_look(memory, p, phase, look)
@@ -61,8 +60,7 @@ fn phase_step<K: Kind, B: Bank>(
 ) -> Result<Stepped<K>, Refusal>
     requires sound { Sound K.Kind.empty (tables_of memory.old) p }
     requires facts { PhaseFacts (tables_of memory.old) p phase }
-    ensures reply { result ≡ (phase_step K.Kind.empty (B.Bank.number bank.old) (tables_of memory.old) p phase).reply }
-    ensures after { tables_of memory.new ≡ (phase_step K.Kind.empty (B.Bank.number bank.old) (tables_of memory.old) p phase).tables }
+    ensures after { outcome result (tables_of memory.new) ≡ phase_step K.Kind.empty (B.Bank.number bank.old) (tables_of memory.old) p phase }
     ensures bank { bank.new ≡ phase_bank B.Bank.number B.Bank.moved (tables_of memory.old) bank.old p phase }
 {
     match phase {

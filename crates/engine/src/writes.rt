@@ -2,6 +2,7 @@
 ghost use Rattle.std.specs.Prelude.{◌≡◌, ◌<◌, length};
 ghost use Rattle.tables.specs.Tables.{tables_of, process_at};
 ghost use Rattle.engine.specs.Ready.{Ready};
+ghost use Rattle.engine.specs.Outcome.{outcome};
 ghost use Rattle.engine.specs.Writes.{rewritten, held};
 
 use super::outcome::{answering, going};
@@ -15,8 +16,7 @@ use tables::{
 pub(crate) fn rewrite<K: Kind>(memory: &mut Memory<K>, p: usize, x: usize, i: usize) -> Stepped<K>
     requires ready { Ready (tables_of memory.old) p }
     requires within { i < 16 }
-    ensures reply { result ≡ (rewritten K.Kind.empty (tables_of memory.old) p x i).reply }
-    ensures after { tables_of memory.new ≡ (rewritten K.Kind.empty (tables_of memory.old) p x i).tables }
+    ensures { outcome result (tables_of memory.new) ≡ rewritten K.Kind.empty (tables_of memory.old) p x i }
 {
     let value = memory.hands[p];
     put(
@@ -40,8 +40,7 @@ pub(crate) fn hold<K: Kind>(
     requires ready { Ready (tables_of memory.old) p }
     requires object { x < length (tables_of memory.old).objects }
     requires room { (process_at (tables_of memory.old) p).writes < 16 }
-    ensures reply { result ≡ (held K.Kind.empty (tables_of memory.old) p x found).reply }
-    ensures after { tables_of memory.new ≡ (held K.Kind.empty (tables_of memory.old) p x found).tables }
+    ensures { outcome result (tables_of memory.new) ≡ held K.Kind.empty (tables_of memory.old) p x found }
 {
     let before = memory.processes[p];
     let value = memory.hands[p];
