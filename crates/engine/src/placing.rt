@@ -1,5 +1,6 @@
 // The placing of a request: it alters the process's own record and hand place only.
-ghost use Rattle.std.specs.Prelude.{◌≡◌, ◌<◌, length, Some, None, MatchResult};
+ghost use Rattle.std.specs.Prelude.{◌≡◌, ◌<◌, length};
+ghost use Rattle.std.specs.Result.{result_err};
 ghost use Rattle.tables.specs.Tables.{tables_of, process_at};
 ghost use Rattle.engine.specs.Place.{due as is_due, access_no, object_no, request_no, first_phase, handed, place_call};
 
@@ -21,7 +22,7 @@ fn due<K: Kind>(request: Request<K>, live: bool) -> bool
 impl<K: Kind> Owner<'_, K> {
     // The questions on an object: is there one, and does its pair fit?
     fn access_question(&self, x: usize, fits: bool) -> Result<(), Refusal>
-        ensures { MatchResult result (λ _. access_no (tables_of self.now.memory.now) x fits ≡ None) (λ e. access_no (tables_of self.now.memory.now) x fits ≡ Some e) }
+        ensures { result_err result ≡ access_no (tables_of self.now.memory.now) x fits }
     {
         if x >= self.memory.objects.len() {
             return Err(Refusal::Object);
@@ -31,7 +32,7 @@ impl<K: Kind> Owner<'_, K> {
 
     // The questions on the object of a request.
     fn object_question(&self, request: Request<K>) -> Result<(), Refusal>
-        ensures { MatchResult result (λ _. object_no (tables_of self.now.memory.now) self.now.p request ≡ None) (λ e. object_no (tables_of self.now.memory.now) self.now.p request ≡ Some e) }
+        ensures { result_err result ≡ object_no (tables_of self.now.memory.now) self.now.p request }
     {
         match request {
             Request::Read { object } => self.access_question(object, self.readable(object)),
@@ -42,7 +43,7 @@ impl<K: Kind> Owner<'_, K> {
 
     // The questions on a request, in their order.
     fn request_question(&self, request: Request<K>) -> Result<(), Refusal>
-        ensures { MatchResult result (λ _. request_no (tables_of self.now.memory.now) self.now.p request ≡ None) (λ e. request_no (tables_of self.now.memory.now) self.now.p request ≡ Some e) }
+        ensures { result_err result ≡ request_no (tables_of self.now.memory.now) self.now.p request }
     {
         let r = self.record();
         if !matches!(r.phase, Phase::Idle) {
