@@ -1,5 +1,5 @@
 // The end of a transaction, and the freeing of what it holds when it is given up.
-ghost use Rattle.std.specs.Prelude.{◌≡◌, ◌+◌, ◌<◌, ◌≤◌, length, vec_len};
+ghost use Rattle.std.specs.Prelude.{◌≡◌, ◌+◌, ◌*◌, ◌<◌, ◌≤◌, length, vec_len};
 ghost use Rattle.tables.specs.Lookup.{pair};
 ghost use Rattle.tables.specs.Tables.{tables_of, process_at, write_at};
 ghost use Rattle.engine.specs.Ready.{Ready};
@@ -12,12 +12,14 @@ use tables::{
     Answer, Conflict, Effect, Ending, Kind, Memory, Phase, READ_PLACES, Slot, Stepped, WRITE_PLACES,
 };
 
-// Zeroes and blanks n places from `at` on.
-fn wipe<V: Copy>(places: &mut Vec<Slot<V>>, at: usize, n: usize, blank: V)
-    requires { at + n ≤ vec_len places.old }
-    ensures { places.new.items ≡ wiped places.old.items at n (pair 0 blank) }
+// Zeroes and blanks the places of process p, in a table in which each process has WIDTH places.
+// (c) The method `fill` asks for a `clone` that cannot fail, which `Copy` does not say.
+fn wipe<V: Copy, const WIDTH: usize>(places: &mut Vec<Slot<V>>, p: usize, blank: V)
+    requires { p * WIDTH + WIDTH ≤ vec_len places.old }
+    ensures { places.new.items ≡ wiped places.old.items (p * WIDTH) WIDTH (pair 0 blank) }
 {
-    for place in &mut places[at..at + n] {
+    let at = p * WIDTH;
+    for place in &mut places[at..at + WIDTH] {
         *place = Slot {
             object: 0,
             value: blank,
@@ -31,13 +33,8 @@ pub(crate) fn end<K: Kind>(memory: &mut Memory<K>, p: usize) -> usize
     ensures steps { result ≡ (process_at (tables_of memory.old) p).steps + 1 }
     ensures after { tables_of memory.new ≡ ended K.Kind.empty (tables_of memory.old) p }
 {
-    wipe(&mut memory.reads, p * READ_PLACES, READ_PLACES, 0);
-    wipe(
-        &mut memory.writes,
-        p * WRITE_PLACES,
-        WRITE_PLACES,
-        K::blank(),
-    );
+    wipe::<_, READ_PLACES>(&mut memory.reads, p, 0);
+    wipe::<_, WRITE_PLACES>(&mut memory.writes, p, K::blank());
     memory.hands[p] = K::blank();
     let r = &mut memory.processes[p];
     r.live = false;

@@ -52,6 +52,7 @@ fn extend_step<K: Kind>(memory: &mut Memory<K>, p: usize, phase: Phase, next: us
 }
 
 // The step of a phase.
+// (a) A rule of the project: this is a `match` on the phase.
 fn phase_step<K: Kind, B: Bank>(
     memory: &mut Memory<K>,
     bank: &mut B,
