@@ -31,10 +31,11 @@ use Rattle.engine.specs.Looked.{read_at_value, write_at_place}
 use Rattle.engine.specs.Step.{commit_step, phase_step}
 
 none_room : {V : Type 0} (xs : List (Slot V)) (n most x : ℕ) → room xs n most x ≡ true → value_of xs x ≡ None → n < most
-none_room xs n most x h q = let z : is_some (value_of xs x) ≡ false = ap is_some q in grind (arith, nat_tests)
+none_room xs n most x h q = ltb-true _ _ (simp q at h)
 
-second : (a b : Bool) → a ≡ false → (a || b) ≡ true → b ≡ true
-second a b f h = grind arith
+-- an access that is not current has read something
+not_current : (n : ℕ) (b : Bool) → (b || eqb n 0) ≡ false → 0 < n
+not_current n b q = grind (arith, nat_tests)
 
 module _ {K : Type 0} (e : K) (t : Tables K) (p : ℕ) (g : Good e t) (l : p < length t.processes) where
   own : Own t p
@@ -76,9 +77,6 @@ module _ {K : Type 0} (e : K) (t : Tables K) (p : ℕ) (g : Good e t) (l : p < l
       (λ _. joined_good e u p gu l x o.stamp (max (process_at t p).clock o.stamp) (value_of (read_set t p) x) refl hx st (omega arith) few)
       (λ q. let some : 0 < (process_at t p).reads = not_current (process_at t p).reads (leb o.stamp (process_at t p).clock) q in
       advances e u p gu l (Extending x o.stamp 0 access.Read) (hx, st, some, free, omega arith))
-    where
-      not_current : (n : ℕ) (b : Bool) → (b || eqb n 0) ≡ false → 0 < n
-      not_current n b q = grind (arith, nat_tests)
 
   reads_good : (x : ℕ) (v : Option K) → value_of (write_set t p) x ≡ v → (process_at t p).phase ≡ Reading x → Good e (read_at_value e t p x v).tables
   reads_good x (Some v) w q =
@@ -88,7 +86,7 @@ module _ {K : Type 0} (e : K) (t : Tables K) (p : ℕ) (g : Good e t) (l : p < l
       let o = object_at e t x in
       let zero = h.2 in
       let wc = own.write_count in
-      let free = second (is_some (value_of (write_set t p) x)) (room (read_set t p) (process_at t p).reads 32 x) (ap is_some w) h.1 in
+      let free = simp w at h.1 in
       looks (Reading x) o x (value_of (read_set t p) x) h.0 (omega arith)
       (admits x o h.0 (ok_at e t.objects (length t.processes) x g.objects) (none_room (read_set t p) (process_at t p).reads 32 x free) zero free)
 
@@ -103,16 +101,13 @@ module _ {K : Type 0} (e : K) (t : Tables K) (p : ℕ) (g : Good e t) (l : p < l
       (λ q. let some : 0 < (process_at t p).reads = not_current (process_at t p).reads (leb o.stamp (process_at t p).clock) q in
       holds e t p g l x o (advanced (write_joined (process_at t p)) (Extending x o.stamp 0 access.Write)) hx ho few none refl refl own.clock
       (hx, st, some, tt, omega arith))
-    where
-      not_current : (n : ℕ) (b : Bool) → (b || eqb n 0) ≡ false → 0 < n
-      not_current n b q = grind (arith, nat_tests)
 
   no_place : (x : ℕ) → place_of (write_set t p) x 0 ≡ None → is_some (value_of (write_set t p) x) ≡ false
   no_place x q = value_place (write_set t p) x 0 ∙ ap is_some q
 
   none_of : {V : Type 0} (o : Option V) → is_some o ≡ false → o ≡ None
   none_of None h = refl
-  none_of (Some v) h = absurd (let z : ◌≡◌ {A = ℕ} 0 1 = cc in omega arith)
+  none_of (Some v) h = cc
 
   writes_good : (x : ℕ) (i : Option ℕ) → place_of (write_set t p) x 0 ≡ i → (process_at t p).phase ≡ Writing x → Good e (write_at_place e t p x i).tables
   writes_good x (Some i) w q = replaces e t p g l x i w

@@ -114,25 +114,17 @@ module _ {K : Type 0} (e : K) (number : ℕ → ℕ) (t : Tables K) (s : State K
   why_held x b = go (object_at e t x).holder b (v.held x)
     where
       go : (o : Option ℕ) → foreign o p ≡ true → HolderAs t x o (s.held x) → Why s p (busy x)
-      go None n h = absurd (let z : ◌≡◌ {A = ℕ} 0 1 = cc in omega arith)
-      go (Some q) n h = (q, h.0, h.2, λ m. let z = eq-eqb q p m in let i : ◌≡◌ {A = ℕ} 0 1 = clash (eqb q p) z n in omega arith)
-        where
-          clash : (k : Bool) → k ≡ true → not k ≡ true → ◌≡◌ {A = ℕ} 0 1
-          clash true m k = cc
-          clash false m k = cc
+      go None n h = cc
+      go (Some q) n h = (q, h.0, h.2, λ m. let z = eq-eqb q p m in cc)
 
   -- x has another stamp than the one that p has seen
   why_changed : (x u : ℕ) → SeenAs (Some u) (s.seen p x) → differs (Some u) (object_at e t x).stamp ≡ true → Why s p (cause_of (conflict.Changed x))
   why_changed x u a b =
-      (u, a.0, a.1, λ m. let z = eq-eqb u (object_at e t x).stamp (m ∙ v.stamps x) in let i : ◌≡◌ {A = ℕ} 0 1 = clash (eqb u (object_at e t x).stamp) z b in omega arith)
-    where
-      clash : (k : Bool) → k ≡ true → not k ≡ true → ◌≡◌ {A = ℕ} 0 1
-      clash true m k = cc
-      clash false m k = cc
+      (u, a.0, a.1, λ m. let z = eq-eqb u (object_at e t x).stamp (m ∙ v.stamps x) in cc)
 
   -- the same, where p may have seen none
   why_seen : (x : ℕ) (o : Option ℕ) → SeenAs o (s.seen p x) → differs o (object_at e t x).stamp ≡ true → Why s p (cause_of (conflict.Changed x))
-  why_seen x None a b = absurd (let z : ◌≡◌ {A = ℕ} 0 1 = cc in omega arith)
+  why_seen x None a b = cc
   why_seen x (Some u) a b = why_changed x u a b
 
   -- a look at x that p may have seen, by what it finds
@@ -151,12 +143,8 @@ module _ {K : Type 0} (e : K) (number : ℕ → ℕ) (t : Tables K) (s : State K
   current_cases st ck n h =
       elim (cases_Bool (leb st ck)) [
         | inl b ↦ inl (leb-true st ck b)
-        | inr b ↦ inr (leb-false st ck b, eqb-true n 0 (second (leb st ck) (eqb n 0) b h))
+        | inr b ↦ inr (leb-false st ck b, eqb-true n 0 (simp b at h))
       ]
-    where
-      second : (x y : Bool) → x ≡ false → (x || y) ≡ true → y ≡ true
-      second true y q k = absurd (let z : ◌≡◌ {A = ℕ} 0 1 = cc in omega arith)
-      second false y q k = k
 
   -- a stamp that needs an extension
   later_is : (st ck n : ℕ) → (leb st ck || eqb n 0) ≡ false → ck < st
@@ -221,7 +209,7 @@ module _ {K : Type 0} (e : K) (number : ℕ → ℕ) (t : Tables K) (s : State K
       (frame_write t p i (pair x (hand_at e t p)) (place_within e t p g l x i h)) refl refl
       (rewrite_shown e number t s p g v l live x i q a h) (λ k b. rw b (Block.rewrites x _ old.0 _ (own_phase (Writing x) q).2 old.2))
   writes x None q hx h room =
-      looks (Writing x) x None tt (ap gone q) (inl a.phase) (λ c. absurd (let z : ◌≡◌ {A = ℕ} 0 1 = cc in omega arith))
+      looks (Writing x) x None tt (ap gone q) (inl a.phase) (λ c. cc)
       (λ clear fresh.
       cond_both (current (process_at t p) (object_at e t x).stamp) _ _ (Here (Writing x))
       (λ b. takes clear (current_cases (object_at e t x).stamp (process_at t p).clock (process_at t p).reads b))
@@ -237,7 +225,7 @@ module _ {K : Type 0} (e : K) (number : ℕ → ℕ) (t : Tables K) (s : State K
 
       none_of : {V : Type 0} (o : Option V) → is_some o ≡ false → o ≡ None
       none_of None n = refl
-      none_of (Some k) n = absurd (let z : ◌≡◌ {A = ℕ} 0 1 = cc in omega arith)
+      none_of (Some k) n = cc
 
       none : value_of (write_set t p) x ≡ None
       none = none_of (value_of (write_set t p) x) (value_place (write_set t p) x 0 ∙ ap is_some h)
@@ -387,7 +375,7 @@ module _ {K B : Type 0} (e : K) (number : B → ℕ → ℕ) (moved : B → ℕ 
     where
       stamp_is : (c : Bool) → cond c (Some (1 + max (process_at t p).clock (number b p))) None ≡ Some st → 1 + max (process_at t p).clock (number b p) ≡ st
       stamp_is true k = cc
-      stamp_is false k = absurd (let z : ◌≡◌ {A = ℕ} 0 1 = cc in omega arith)
+      stamp_is false k = cc
   seals s i v q a last None h = stops e (number b) t s p g v l live (Certifying i) conflict.Spent tt a.phase (inr a.phase) (ap gone q)
 
   -- a step of a commit, once certification has begun
