@@ -41,7 +41,7 @@ later_none (s ∷ ss) zero d h l =
   where
     none_of : {V : Type 0} (o : Option V) → is_some o ≡ false → o ≡ None
     none_of None n = refl
-    none_of (Some k) n = absurd (let z : ◌≡◌ {A = ℕ} 0 1 = cc in omega arith)
+    none_of (Some k) n = cc
 later_none (s ∷ ss) (suc i) d h l =
     let a = and_parts (not (among s.object (names ss))) (apart (names ss)) h in
     let e : suc i + 1 ≡ suc (i + 1) = omega arith in
@@ -126,7 +126,7 @@ module _ {K : Type 0} (e : K) (number : ℕ → ℕ) (t : Tables K) (s : State K
       ])
       stamp held
       (subst (λ (b : Option ℕ). HolderAs u the_object b nobody) (sym (ap (λ (b : Object K). b.holder) object_here ∙ unheld)) refl)
-      (λ w h. absurd (let k : value_of (drop (i + 1) (write_set t p)) the_object ≡ Some w = ap (λ (c : List (Slot K)). value_of c the_object) (sym pend) ∙ h in let a = gone_now in let b : ◌≡◌ {A = ℕ} 0 1 = cc in omega arith))
+      (λ w h. absurd (let k : value_of (drop (i + 1) (write_set t p)) the_object ≡ Some w = ap (λ (c : List (Slot K)). value_of c the_object) (sym pend) ∙ h in let a = gone_now in cc))
       bank others mine_row
       (λ y w run h. absurd (still run))
 
@@ -137,13 +137,12 @@ module _ {K : Type 0} (e : K) (number : ℕ → ℕ) (t : Tables K) (s : State K
   pub holds_no_more : i + 1 ≡ (process_at t p).writes → (y : ℕ) (w : K) → put s.held the_object nobody y ≡ by p w → ⊥
   holds_no_more last y w h =
       elim (put_is s.held the_object nobody y (by p w) h) [
-        | inl a ↦ (let b = a.1 in let z : ◌≡◌ {A = ℕ} 0 1 = cc in omega arith)
+        | inl a ↦ (let b = a.1 in cc)
         | inr a ↦
             (let b = holder_of t y (object_at e t y).holder (s.held y) p w (v.held y) a.1 in
             let c : value_of (drop (i + 1) (write_set t p)) y ≡ Some w = away y a.0 ∙ b.1 in
             let d : value_of (drop (i + 1) (write_set t p)) y ≡ None = ap (λ (k : List (Slot K)). value_of k y) (nothing_left last) in
-            let z : ◌≡◌ {A = ℕ} 0 1 = cc in
-            omega arith)
+            cc)
       ]
 
   -- p's record after the step, with the object changed to o

@@ -94,7 +94,7 @@ names_push xs s = map_push (λ (z : Slot _). z.object) xs s
 
 -- the place that a look-up gives
 pub place_found : {V : Type 0} (xs : List (Slot V)) (x n i : ℕ) → place_of xs x n ≡ Some i → (n ≤ i) × (i < n + length xs) × ((d : ℕ) → get_or (names xs) (i - n) d ≡ x)
-place_found [] x n i h = absurd (let z : ◌≡◌ {A = ℕ} 0 1 = cc in omega arith)
+place_found [] x n i h = cc
 place_found (s ∷ ss) x n i h =
     elim (cases_Bool (eqb s.object x)) [
       | inl e ↦

@@ -78,11 +78,11 @@ unstopped (Freeing next x) l = absurd l
 no_begin : {K : Type 0} (h : K) (f : Phase) (k : Request K) → Looking f → Asks h f k → k ≡ ask.Begin → ⊥
 no_begin h Idle k l a e = l
 no_begin h (Beginning next least) k l a e = l
-no_begin h (Reading x) k l a e = let z : ◌≡◌ {A = ℕ} 0 1 = cc in omega arith
-no_begin h (Writing x) k l a e = let z : ◌≡◌ {A = ℕ} 0 1 = cc in omega arith
-no_begin h (Extending x to next access.Read) k l a e = let z : ◌≡◌ {A = ℕ} 0 1 = cc in omega arith
-no_begin h (Extending x to next access.Write) k l a e = let z : ◌≡◌ {A = ℕ} 0 1 = cc in omega arith
-no_begin h (Certifying next) k l a e = let z : ◌≡◌ {A = ℕ} 0 1 = cc in omega arith
+no_begin h (Reading x) k l a e = cc
+no_begin h (Writing x) k l a e = cc
+no_begin h (Extending x to next access.Read) k l a e = cc
+no_begin h (Extending x to next access.Write) k l a e = cc
+no_begin h (Certifying next) k l a e = cc
 no_begin h (Storing next) k l a e = l
 no_begin h (Freeing next x) k l a e = l
 
@@ -454,7 +454,7 @@ module _ {K B : Type 0} (e : K) (number : B → ℕ → ℕ) (moved : B → ℕ 
   -- the step of each phase
   pub phase_advances : (s : State K) (f : Phase) (z : Stepped K) → View e (number b) t s → (process_at t p).phase ≡ f → (phase_step e (number b) t p f).reply ≡ Ok z
       → Advance e (length t.processes) (number (phase_bank number moved t b p f)) t (phase_step e (number b) t p f).tables s p z
-  phase_advances s Idle z v q h = absurd (let i : ◌≡◌ {A = ℕ} 0 1 = cc in omega arith)
+  phase_advances s Idle z v q h = cc
   phase_advances s (Beginning n least) z v q h =
       replied_alone s (Beginning n least) (begin_step (number b) t p n least) z q (λ no run. no) h (begins s n least v q)
   phase_advances s (Reading x) z v q h =
@@ -470,7 +470,7 @@ module _ {K B : Type 0} (e : K) (number : B → ℕ → ℕ) (moved : B → ℕ 
   phase_advances s (Extending x to i access.Write) z v q h =
       let f = Extending x to i access.Write in
       replied_alone s f (after_look e t p f (pair_looked e t p i)) z q (λ no run. no) h
-      (extends e (number b) t s p g v l live x to i access.Write q (facts f q).0 (λ n m. absurd (let j : ◌≡◌ {A = ℕ} 0 1 = cc in omega arith)))
+      (extends e (number b) t s p g v l live x to i access.Write q (facts f q).0 (λ n m. cc))
   phase_advances s (Certifying i) z v q h =
       replied s (commit_bank number moved t b p i) (commit_step e (number b p) t p i) z h (commits_from s i v q (live_at e (number b) t s p g v l (Certifying i) live q))
   phase_advances s (Storing i) z v q h =
