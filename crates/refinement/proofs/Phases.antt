@@ -24,7 +24,7 @@ use Rattle.engine.specs.Extend.{extended}
 use Rattle.engine.specs.Commit.{seal_stamp, sealed, sealed_at, stored_object, stored, store_step}
 use Rattle.engine.specs.Looked.{passed, after_look}
 use Rattle.engine.specs.Sound.{object_ok, holder_ok, room}
-use Rattle.engine.proofs.Facts.{value_place}
+use Rattle.refinement.proofs.Sets.{no_value}
 use Rattle.refinement.proofs.Own.{EndingNamed, AccessFits, PhaseOwn, Own, Good}
 use Rattle.refinement.proofs.Changes.{sound_of, ok_at, stamp_ok, sets_stay, completes, advances, hands_good, object_good, ends, joined_good, holds, replaces, stops}
 use Rattle.engine.specs.Looked.{read_at_value, write_at_place}
@@ -102,20 +102,13 @@ module _ {K : Type 0} (e : K) (t : Tables K) (p : ℕ) (g : Good e t) (l : p < l
       holds e t p g l x o (advanced (write_joined (process_at t p)) (Extending x o.stamp 0 access.Write)) hx ho few none refl refl own.clock
       (hx, st, some, tt, omega arith))
 
-  no_place : (x : ℕ) → place_of (write_set t p) x 0 ≡ None → is_some (value_of (write_set t p) x) ≡ false
-  no_place x q = value_place (write_set t p) x 0 ∙ ap is_some q
-
-  none_of : {V : Type 0} (o : Option V) → is_some o ≡ false → o ≡ None
-  none_of None h = refl
-  none_of (Some v) h = cc
-
   writes_good : (x : ℕ) (i : Option ℕ) → place_of (write_set t p) x 0 ≡ i → (process_at t p).phase ≡ Writing x → Good e (write_at_place e t p x i).tables
   writes_good x (Some i) w q = replaces e t p g l x i w
   writes_good x None w q =
       let h = at_phase (Writing x) q in
       let o = object_at e t x in
       let zero = h.2 in
-      let none = none_of (value_of (write_set t p) x) (no_place x w) in
+      let none = no_value (write_set t p) x w in
       let few = none_room (write_set t p) (process_at t p).writes 16 x h.1 none in
       looks (Writing x) o x None h.0 (omega arith)
       (holds_good x o h.0 (ok_at e t.objects (length t.processes) x g.objects) few none zero)

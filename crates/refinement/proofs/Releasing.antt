@@ -18,7 +18,7 @@ use Rattle.protocol.proofs.Updates.{put_same, put_other, put_is}
 use Rattle.protocol.proofs.Invariant.{differ}
 use Rattle.refinement.proofs.Frames.{Frame, frame_process, frame_object, frame_ended, frame_both}
 use Rattle.refinement.proofs.Own.{Good}
-use Rattle.refinement.proofs.Sets.{names, apart, among, value_among}
+use Rattle.refinement.proofs.Sets.{names, apart, among, value_among, none_of}
 use Rattle.refinement.proofs.Windows.{window, window_length}
 use Rattle.refinement.proofs.Changes.{sizes_facts, sound_of}
 use Rattle.refinement.proofs.Rows.{Row, row, row_others}
@@ -38,10 +38,6 @@ later_none [] i d h l = absurd (omega arith)
 later_none (s ∷ ss) zero d h l =
     let a = and_parts (not (among s.object (names ss))) (apart (names ss)) h in
     none_of (value_of ss s.object) (value_among ss s.object ∙ not-true (among s.object (names ss)) a.0)
-  where
-    none_of : {V : Type 0} (o : Option V) → is_some o ≡ false → o ≡ None
-    none_of None n = refl
-    none_of (Some k) n = cc
 later_none (s ∷ ss) (suc i) d h l =
     let a = and_parts (not (among s.object (names ss))) (apart (names ss)) h in
     let e : suc i + 1 ≡ suc (i + 1) = omega arith in

@@ -39,6 +39,7 @@ use Rattle.protocol.proofs.Updates.{put_same}
 use Rattle.protocol.proofs.Invariant.{differ}
 use Rattle.refinement.proofs.Frames.{Frame, frame_both, frame_hand, frame_object, frame_read, frame_write}
 use Rattle.refinement.proofs.Own.{Good, PhaseOwn, phase_from}
+use Rattle.refinement.proofs.Sets.{no_value}
 use Rattle.refinement.proofs.Windows.{window, window_push}
 use Rattle.refinement.proofs.Changes.{sizes_facts, place_within}
 use Rattle.refinement.proofs.Rows.{row}
@@ -223,12 +224,8 @@ module _ {K : Type 0} (e : K) (number : ℕ → ℕ) (t : Tables K) (s : State K
       zero : (process_at t p).steps ≡ 0
       zero = (own_phase (Writing x) q).2
 
-      none_of : {V : Type 0} (o : Option V) → is_some o ≡ false → o ≡ None
-      none_of None n = refl
-      none_of (Some k) n = cc
-
       none : value_of (write_set t p) x ≡ None
-      none = none_of (value_of (write_set t p) x) (value_place (write_set t p) x 0 ∙ ap is_some h)
+      none = no_value (write_set t p) x h
 
       free : foreign (object_at e t x).holder p ≡ false → s.held x ≡ nobody
       free clear = held_nobody e number t s v p x clear (ap (λ (k : List (Slot K)). value_of k x) (pending_at e number t s p g v l (Writing x) q) ∙ none)
