@@ -1,5 +1,5 @@
 -- Every step is a lawful block of events of the protocol, by its phase and its reply.
-use Rattle.std.proofs.Common.{◌≡◌, ℕ, ◌+◌, ◌*◌, ◌^◌, ◌<◌, ◌≤◌, min, max, Bool, true, false, cond, not, ◌&&◌, ◌||◌, eqb, ltb, leb, ◌⊎◌, List, [], ◌∷◌, length, is_some, Some, None, Ok, Option, Result, sym, refl, ap, ◌∙◌, subst, inl, inr, arith}
+use Rattle.std.proofs.Common.{◌≡◌, ℕ, ◌+◌, ◌*◌, ◌^◌, ◌<◌, ◌≤◌, min, max, Bool, true, false, cond, ◌&&◌, ◌||◌, eqb, ltb, leb, ◌⊎◌, List, [], ◌∷◌, length, Some, None, Ok, Option, Result, sym, refl, ap, ◌∙◌, subst, inl, inr, arith}
 use Rattle.std.proofs.lemmas.Bool.{cases_Bool, eqb-true, eqb-false, and_parts, or_parts, eq-eqb, cond_both, leb-true, leb-false, ltb-true, ltb-false}
 use Rattle.tables.specs.Lookup.{pair, value_of, place_of}
 use Rattle.tables.specs.Tables.{Tables, process_at, object_at, hand_at, read_at, write_at, read_set, write_set, with_process, with_object, with_hand, with_read, with_write}
@@ -29,7 +29,7 @@ use Rattle.engine.specs.Commit.{seal_stamp, sealed, sealed_at, sealed_bank, stor
 use Rattle.engine.specs.Looked.{passed, after_look, read_at_value, read_step, write_at_place, write_step}
 use Rattle.engine.specs.Step.{commit_step, commit_bank, phase_step, phase_bank}
 use Rattle.engine.specs.Ready.{PhaseFacts}
-use Rattle.engine.proofs.Facts.{value_place, phase_facts}
+use Rattle.engine.proofs.Facts.{phase_facts}
 use Rattle.protocol.specs.Protocol.{State, Why, next}
 use Rattle.protocol.specs.Protocol.Held.{nobody}
 use Rattle.protocol.specs.Protocol.Phase.{running, certifying, aborting, sealing}
