@@ -16,6 +16,18 @@ use super::questions::questions;
 use banks::Bank;
 use tables::{Effect, Kind, Memory, Phase, Refusal, Stepped};
 
+// A step that looks at pair `next` of the read set: the look and what follows it.
+fn pair_step<K: Kind>(memory: &mut Memory<K>, p: usize, phase: Phase, next: usize) -> Stepped<K>
+    requires ready { Ready (tables_of memory.old) p }
+    requires within { next < 32 }
+    requires looks { Looks (tables_of memory.old) p phase }
+    requires named { (read_at (tables_of memory.old) p next).object < length (tables_of memory.old).objects }
+    ensures { outcome result (tables_of memory.new) ≡ after_look K.Kind.empty (tables_of memory.old) p phase (pair_looked K.Kind.empty (tables_of memory.old) p next) }
+{
+    let look = Owner { memory, p }.look_at_pair(next);
+    follow_look(memory, p, phase, look)
+}
+
 // A step of a commit before anything is stored.
 fn commit_step<K: Kind, B: Bank>(
     memory: &mut Memory<K>,
@@ -30,25 +42,12 @@ fn commit_step<K: Kind, B: Bank>(
 {
     let r = memory.processes[p];
     if next < r.reads {
-        let look = Owner { memory, p }.look_at_pair(next);
-        return follow_look(memory, p, Phase::Certifying { next }, look);
+        return pair_step(memory, p, Phase::Certifying { next }, next);
     }
     if r.writes == 0 {
         return finish_commit(memory, p, Effect::Nothing);
     }
     seal_step(memory, bank, p)
-}
-
-// A step of an extension: the look at pair `next` and what follows it.
-fn extend_step<K: Kind>(memory: &mut Memory<K>, p: usize, phase: Phase, next: usize) -> Stepped<K>
-    requires ready { Ready (tables_of memory.old) p }
-    requires within { next < 32 }
-    requires looks { Looks (tables_of memory.old) p phase }
-    requires named { (read_at (tables_of memory.old) p next).object < length (tables_of memory.old).objects }
-    ensures { outcome result (tables_of memory.new) ≡ after_look K.Kind.empty (tables_of memory.old) p phase (pair_looked K.Kind.empty (tables_of memory.old) p next) }
-{
-    let look = Owner { memory, p }.look_at_pair(next);
-    follow_look(memory, p, phase, look)
 }
 
 // The step of a phase.
@@ -69,7 +68,7 @@ fn phase_step<K: Kind, B: Bank>(
         Phase::Beginning { next, least } => Ok(begin_step(memory, bank, p, next, least)),
         Phase::Reading { object } => Ok(read_step(memory, p, object)),
         Phase::Writing { object } => Ok(write_step(memory, p, object)),
-        Phase::Extending { next, .. } => Ok(extend_step(memory, p, phase, next)),
+        Phase::Extending { next, .. } => Ok(pair_step(memory, p, phase, next)),
         Phase::Certifying { next } => Ok(commit_step(memory, bank, p, next)),
         Phase::Storing { next } => Ok(store_step(memory, p, next)),
         Phase::Freeing { next, ending } => Ok(free_step(memory, p, next, ending)),
