@@ -6,8 +6,7 @@ ghost use Rattle.engine.specs.Ready.{Ready};
 use tables::{Kind, Map, Memory, Process, READ_PLACES, Slot, WRITE_PLACES};
 
 // Process p of a memory that has its sizes, with the counts, clock and steps of its record in range.
-// (d) Functions that change the memory keep `requires ready`: a struct over a `&mut` has to show this fact again after
-// each write, where a count of 64 steps has become 65, and each method needs two clauses, that the memory and p stay.
+// (d) No such struct over a `&mut`: a 65th step would break its fact, and each method would need two clauses for one.
 #[derive(Drop)]
 pub(crate) struct Owner<'a, K> {
     pub(crate) memory: &'a Memory<K>,
