@@ -1,4 +1,1 @@
-pub mod Wiped
-pub mod Loops
-pub mod Slots
 pub mod Facts

@@ -1,16 +1,14 @@
 -- The steps that look at an object, by their phase and what the look finds.
-use Rattle.std.specs.Prelude.{ℕ, ◌<◌, length, Some, None, Option}
+use Rattle.std.specs.Prelude.{ℕ, ◌<◌, length, Some, None, Ok, Err, Option, Result}
 use Rattle.tables.specs.Lookup.{value_of, place_of}
 use Rattle.tables.specs.Tables.{Tables, process_at, read_set, write_set}
 use Rattle.tables.specs.declared.memory.Object.{Object}
 use Rattle.tables.specs.declared.process.Access.TheVariants as access
 use Rattle.tables.specs.declared.process.Phase.{Phase}
 use Rattle.tables.specs.declared.process.Phase.TheVariants.{Idle, Beginning, Reading, Writing, Extending, Certifying, Storing, Freeing}
-use Rattle.tables.specs.declared.reply.Conflict.TheVariants as conflict
+use Rattle.tables.specs.declared.reply.Conflict.{Conflict}
 use Rattle.tables.specs.declared.reply.Effect.TheVariants.{Nothing}
 use Rattle.tables.specs.declared.reply.Stepped.{Stepped}
-use Rattle.engine.specs.declared.look.Look.{Look}
-use Rattle.engine.specs.declared.look.Look.TheVariants as look
 use Rattle.engine.specs.Ready.{JoinsIn}
 use Rattle.engine.specs.Outcome.{Outcome, outcome, going}
 use Rattle.engine.specs.Look.{looked}
@@ -42,10 +40,9 @@ passed empty t p (Certifying next) o = certified empty t p next
 passed empty t p (Storing next) o = outcome (going Nothing) t
 passed empty t p (Freeing next ending) o = outcome (going Nothing) t
 
-abbrev pub after_look : {K : Type 0} → K → Tables K → ℕ → Phase → Look K → Outcome (Stepped K) K
-after_look empty t p f (look.Held x) = stopped empty t p (conflict.Held x)
-after_look empty t p f (look.Changed x) = stopped empty t p (conflict.Changed x)
-after_look empty t p f (look.Passes o) = passed empty t p f o
+abbrev pub after_look : {K : Type 0} → K → Tables K → ℕ → Phase → Result (Object K) Conflict → Outcome (Stepped K) K
+after_look empty t p f (Err c) = stopped empty t p c
+after_look empty t p f (Ok o) = passed empty t p f o
 
 -- the first step of a read, by the pending content
 abbrev pub read_at_value : {K : Type 0} → K → Tables K → ℕ → ℕ → Option K → Outcome (Stepped K) K

@@ -1,5 +1,6 @@
 -- The questions on the tables' sizes, the process, and the soundness of its record.
 use Rattle.std.specs.Prelude.{ℕ, ◌+◌, ◌-◌, ◌^◌, Bool, true, cond, not, ◌&&◌, ◌||◌, List, [], ◌∷◌, length, is_some, Some, None, Option, ◌==◌, nat_le, nat_lt, slice_index_or}
+use Rattle.std.specs.List.{list_all}
 use Rattle.tables.specs.Lookup.{value_of}
 use Rattle.tables.specs.Tables.{Tables, process_at, blank_object, read_set, write_set, sizes_ok}
 use Rattle.tables.specs.declared.map.Slot.{Slot}
@@ -31,8 +32,7 @@ named_ok empty os n x = nat_lt x (length os) && object_ok (slice_index_or os x (
 
 -- each pair of a set names such an object
 abbrev pub all_named : {K V : Type 0} → K → List (Object K) → ℕ → List (Slot V) → Bool
-all_named empty os n [] = true
-all_named empty os n (s ∷ ss) = named_ok empty os n s.object && all_named empty os n ss
+all_named {V = V} empty os n = list_all (λ (s : Slot V). named_ok empty os n s.object)
 
 -- no object is in the set twice
 abbrev pub distinct : {V : Type 0} → List (Slot V) → Bool
@@ -41,8 +41,7 @@ distinct (s ∷ ss) = not (is_some (value_of ss s.object)) && distinct ss
 
 -- each stamp is at most 2^40
 abbrev pub stamps_ok : List (Slot ℕ) → Bool
-stamps_ok [] = true
-stamps_ok (s ∷ ss) = nat_le s.value (2 ^ 40) && stamps_ok ss
+stamps_ok = list_all (λ (s : Slot ℕ). nat_le s.value (2 ^ 40))
 
 -- counts, clock and steps are within their limits
 abbrev pub counts_ok : Process → Bool

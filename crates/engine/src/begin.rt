@@ -2,9 +2,11 @@
 ghost use Rattle.std.specs.Prelude.{◌≡◌, ◌<◌, length};
 ghost use Rattle.tables.specs.Tables.{tables_of};
 ghost use Rattle.engine.specs.Ready.{Ready};
+ghost use Rattle.engine.specs.Outcome.{outcome};
 ghost use Rattle.engine.specs.Begin.{begin_step};
 
-use super::places::{complete, go_on, process};
+use super::outcome::{answering, going};
+use super::record::{complete, go_on};
 use banks::Bank;
 use tables::{Answer, Effect, Kind, Memory, Phase, Stepped};
 
@@ -18,28 +20,21 @@ pub(crate) fn begin_step<K: Kind, B: Bank>(
 ) -> Stepped<K>
     requires ready { Ready (tables_of memory.old) p }
     requires due { next < length (tables_of memory.old).processes }
-    ensures reply { result ≡ (begin_step (B.Bank.number bank.now) (tables_of memory.old) p next least).reply }
-    ensures after { tables_of memory.new ≡ (begin_step (B.Bank.number bank.now) (tables_of memory.old) p next least).tables }
+    ensures { outcome result (tables_of memory.new) ≡ begin_step (B.Bank.number bank.now) (tables_of memory.old) p next least }
 {
     let low = bank.read(next).min(least);
-    let steps = process(memory, p).steps + 1;
-    if next + 1 == memory.processes.len() {
-        complete(memory, p, low);
-        return Stepped {
-            effect: Effect::Nothing,
-            answer: Some(Answer::Begun { steps }),
-        };
+    let count = memory.processes.len();
+    let r = &mut memory.processes[p];
+    if next + 1 == count {
+        let steps = complete(r, low);
+        return answering(Effect::Nothing, Answer::Begun { steps });
     }
     go_on(
-        memory,
-        p,
+        r,
         Phase::Beginning {
             next: next + 1,
             least: low,
         },
     );
-    Stepped {
-        effect: Effect::Nothing,
-        answer: None,
-    }
+    going(Effect::Nothing)
 }

@@ -2,43 +2,39 @@
 ghost use Rattle.std.specs.Prelude.{◌≡◌, ◌^◌, ◌<◌, ◌≤◌, length};
 ghost use Rattle.tables.specs.Tables.{tables_of, process_at, write_at};
 ghost use Rattle.engine.specs.Ready.{Ready};
+ghost use Rattle.engine.specs.Outcome.{outcome};
 ghost use Rattle.engine.specs.Commit.{committed, certified, seal_stamp, sealed_at, sealed_bank, store_step};
 
 use super::ends::{end, stop};
-use super::places::{go_on, process, set_object, write_pair};
+use super::outcome::{answering, going};
+use super::record::go_on;
 use banks::{Bank, LARGEST};
-use tables::{Answer, Conflict, Effect, Kind, Memory, Object, Phase, Stepped};
+use tables::{Answer, Conflict, Effect, Kind, Memory, Object, Phase, Stepped, WRITE_PLACES};
 
 // Ends the transaction with the answer committed.
 pub(crate) fn finish_commit<K: Kind>(memory: &mut Memory<K>, p: usize, effect: Effect) -> Stepped<K>
     requires { Ready (tables_of memory.old) p }
-    ensures reply { result ≡ (committed K.Kind.empty (tables_of memory.old) p effect).reply }
-    ensures after { tables_of memory.new ≡ (committed K.Kind.empty (tables_of memory.old) p effect).tables }
+    ensures { outcome result (tables_of memory.new) ≡ committed K.Kind.empty (tables_of memory.old) p effect }
 {
-    let steps = process(memory, p).steps + 1;
-    end(memory, p);
-    Stepped {
-        effect,
-        answer: Some(Answer::Committed { steps }),
-    }
+    let steps = end(memory, p);
+    answering(effect, Answer::Committed { steps })
 }
 
 // Certification's look at pair `next` has passed.
 pub(crate) fn certify<K: Kind>(memory: &mut Memory<K>, p: usize, next: usize) -> Stepped<K>
     requires ready { Ready (tables_of memory.old) p }
     requires due { next < (process_at (tables_of memory.old) p).reads }
-    ensures reply { result ≡ (certified K.Kind.empty (tables_of memory.old) p next).reply }
-    ensures after { tables_of memory.new ≡ (certified K.Kind.empty (tables_of memory.old) p next).tables }
+    ensures { outcome result (tables_of memory.new) ≡ certified K.Kind.empty (tables_of memory.old) p next }
 {
-    let r = process(memory, p);
+    let r = memory.processes[p];
     if next + 1 == r.reads && r.writes == 0 {
         return finish_commit(memory, p, Effect::Nothing);
     }
-    go_on(memory, p, Phase::Certifying { next: next + 1 });
-    Stepped {
-        effect: Effect::Nothing,
-        answer: None,
-    }
+    go_on(
+        &mut memory.processes[p],
+        Phase::Certifying { next: next + 1 },
+    );
+    going(Effect::Nothing)
 }
 
 // The stamp of a sealing step, if one is left.
@@ -48,7 +44,7 @@ fn stamp_for(clock: u64, number: u64) -> Option<u64>
     ensures { result ≡ seal_stamp clock number }
 {
     let stamp = 1 + clock.max(number);
-    if stamp <= LARGEST { Some(stamp) } else { None }
+    (stamp <= LARGEST).then_some(stamp)
 }
 
 // The sealing step.
@@ -58,22 +54,16 @@ pub(crate) fn seal_step<K: Kind, B: Bank>(
     p: usize,
 ) -> Stepped<K>
     requires { Ready (tables_of memory.old) p }
-    ensures reply { result ≡ (sealed_at K.Kind.empty (tables_of memory.old) p (seal_stamp (process_at (tables_of memory.old) p).clock (B.Bank.number bank.old p))).reply }
-    ensures after { tables_of memory.new ≡ (sealed_at K.Kind.empty (tables_of memory.old) p (seal_stamp (process_at (tables_of memory.old) p).clock (B.Bank.number bank.old p))).tables }
+    ensures after { outcome result (tables_of memory.new) ≡ sealed_at K.Kind.empty (tables_of memory.old) p (seal_stamp (process_at (tables_of memory.old) p).clock (B.Bank.number bank.old p)) }
     ensures bank { bank.new ≡ sealed_bank B.Bank.moved bank.old p (seal_stamp (process_at (tables_of memory.old) p).clock (B.Bank.number bank.old p)) }
 {
-    let before = process(memory, p);
-    match stamp_for(before.clock, bank.read(p)) {
+    match stamp_for(memory.processes[p].clock, bank.read(p)) {
         Some(stamp) => {
             bank.move_to(p, stamp);
             let r = &mut memory.processes[p];
             r.clock = stamp;
-            r.steps = before.steps + 1;
-            r.phase = Phase::Storing { next: 0 };
-            Stepped {
-                effect: Effect::Sealed,
-                answer: None,
-            }
+            go_on(r, Phase::Storing { next: 0 });
+            going(Effect::Sealed)
         }
         None => stop(memory, p, Conflict::Spent),
     }
@@ -84,29 +74,21 @@ pub(crate) fn store_step<K: Kind>(memory: &mut Memory<K>, p: usize, next: usize)
     requires ready { Ready (tables_of memory.old) p }
     requires due { next < (process_at (tables_of memory.old) p).writes }
     requires named { (write_at K.Kind.empty (tables_of memory.old) p next).object < length (tables_of memory.old).objects }
-    ensures reply { result ≡ (store_step K.Kind.empty (tables_of memory.old) p next).reply }
-    ensures after { tables_of memory.new ≡ (store_step K.Kind.empty (tables_of memory.old) p next).tables }
+    ensures { outcome result (tables_of memory.new) ≡ store_step K.Kind.empty (tables_of memory.old) p next }
 {
-    let r = process(memory, p);
-    let pair = write_pair(memory, p, next);
-    set_object(
-        memory,
-        pair.object,
-        Object {
-            content: pair.value.copied(),
-            stamp: r.clock,
-            holder: None,
-        },
-    );
+    let r = memory.processes[p];
+    let pair = memory.writes[p * WRITE_PLACES + next];
+    memory.objects[pair.object] = Object {
+        content: pair.value.copied(),
+        stamp: r.clock,
+        holder: None,
+    };
     let effect = Effect::Stored {
         object: pair.object,
     };
     if next + 1 == r.writes {
         return finish_commit(memory, p, effect);
     }
-    go_on(memory, p, Phase::Storing { next: next + 1 });
-    Stepped {
-        effect,
-        answer: None,
-    }
+    go_on(&mut memory.processes[p], Phase::Storing { next: next + 1 });
+    going(effect)
 }

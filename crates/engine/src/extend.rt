@@ -2,10 +2,12 @@
 ghost use Rattle.std.specs.Prelude.{◌≡◌, ◌<◌};
 ghost use Rattle.tables.specs.Tables.{tables_of, process_at};
 ghost use Rattle.engine.specs.Ready.{Ready, JoinsIn};
+ghost use Rattle.engine.specs.Outcome.{outcome};
 ghost use Rattle.engine.specs.Extend.{extended, extension_passed};
 
-use super::places::{complete, go_on, hand, process};
+use super::outcome::{answering, going};
 use super::reads::join_read;
+use super::record::{complete, go_on};
 use tables::{Access, Answer, Effect, Kind, Memory, Phase, Stepped};
 
 // The last pair has passed: the access to x is completed at the clock `to`.
@@ -18,25 +20,17 @@ fn finish_extension<K: Kind>(
 ) -> Stepped<K>
     requires ready { Ready (tables_of memory.old) p }
     requires room { JoinsIn (tables_of memory.old) p x access }
-    ensures reply { result ≡ (extended K.Kind.empty (tables_of memory.old) p x to access).reply }
-    ensures after { tables_of memory.new ≡ (extended K.Kind.empty (tables_of memory.old) p x to access).tables }
+    ensures { outcome result (tables_of memory.new) ≡ extended K.Kind.empty (tables_of memory.old) p x to access }
 {
-    let steps = process(memory, p).steps + 1;
     match access {
         Access::Read => {
-            let content = hand(memory, p);
-            join_read(memory, p, x, to, to);
-            Stepped {
-                effect: Effect::Nothing,
-                answer: Some(Answer::Read { content, steps }),
-            }
+            let content = memory.hands[p];
+            let steps = join_read(memory, p, x, to, to);
+            answering(Effect::Nothing, Answer::Read { content, steps })
         }
         Access::Write => {
-            complete(memory, p, to);
-            Stepped {
-                effect: Effect::Nothing,
-                answer: Some(Answer::Written { steps }),
-            }
+            let steps = complete(&mut memory.processes[p], to);
+            answering(Effect::Nothing, Answer::Written { steps })
         }
     }
 }
@@ -53,15 +47,13 @@ pub(crate) fn pass_extension<K: Kind>(
     requires ready { Ready (tables_of memory.old) p }
     requires due { next < (process_at (tables_of memory.old) p).reads }
     requires room { JoinsIn (tables_of memory.old) p x access }
-    ensures reply { result ≡ (extension_passed K.Kind.empty (tables_of memory.old) p x to next access).reply }
-    ensures after { tables_of memory.new ≡ (extension_passed K.Kind.empty (tables_of memory.old) p x to next access).tables }
+    ensures { outcome result (tables_of memory.new) ≡ extension_passed K.Kind.empty (tables_of memory.old) p x to next access }
 {
-    if next + 1 == process(memory, p).reads {
+    if next + 1 == memory.processes[p].reads {
         return finish_extension(memory, p, x, to, access);
     }
     go_on(
-        memory,
-        p,
+        &mut memory.processes[p],
         Phase::Extending {
             object: x,
             to,
@@ -69,8 +61,5 @@ pub(crate) fn pass_extension<K: Kind>(
             access,
         },
     );
-    Stepped {
-        effect: Effect::Nothing,
-        answer: None,
-    }
+    going(Effect::Nothing)
 }

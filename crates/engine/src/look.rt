@@ -1,50 +1,48 @@
 // A look: one step takes an object's holder, stamp and content together.
 ghost use Rattle.std.specs.Prelude.{◌≡◌, ◌<◌, length};
 ghost use Rattle.tables.specs.Tables.{tables_of, read_at};
-ghost use Rattle.engine.specs.Ready.{Ready};
 ghost use Rattle.engine.specs.Look.{judged, looked, pair_looked};
 
-use super::places::{object, read_pair};
-use tables::{Kind, Memory, Object};
+use super::owner::Owner;
+use tables::{Conflict, Kind, Object, READ_PLACES};
 
-// What a look finds: another holder, another stamp than the one that was seen, or neither.
-#[derive(Drop)]
-pub enum Look<K> {
-    Held { object: usize },
-    Changed { object: usize },
-    Passes { found: Object<K> },
-}
-
-// How the object x, found as it is, looks to p, which may have seen it at a stamp.
-fn judge<K: Kind>(found: Object<K>, p: usize, x: usize, seen: Option<u64>) -> Look<K>
+// The object x, found as it is, unless another process than p holds it or it has another stamp than the one that p
+// has seen.
+fn judge<K: Kind>(
+    found: Object<K>,
+    p: usize,
+    x: usize,
+    seen: Option<u64>,
+) -> Result<Object<K>, Conflict>
     ensures { result ≡ judged found p x seen }
 {
     if let Some(q) = found.holder
         && q != p
     {
-        return Look::Held { object: x };
+        return Err(Conflict::Held { object: x });
     }
     match seen {
-        Some(stamp) if stamp != found.stamp => Look::Changed { object: x },
-        _ => Look::Passes { found },
+        Some(stamp) if stamp != found.stamp => Err(Conflict::Changed { object: x }),
+        _ => Ok(found),
     }
 }
 
-// A look of p at the object x.
-pub(crate) fn look_at<K: Kind>(memory: &Memory<K>, p: usize, x: usize, seen: Option<u64>) -> Look<K>
-    requires { x < length (tables_of memory.now).objects }
-    ensures { result ≡ looked K.Kind.empty (tables_of memory.now) p x seen }
-{
-    judge(object(memory, x), p, x, seen)
-}
+impl<K: Kind> Owner<'_, K> {
+    // A look at the object x, which the process may have seen at a stamp.
+    pub(crate) fn look_at(&self, x: usize, seen: Option<u64>) -> Result<Object<K>, Conflict>
+        requires { x < length (tables_of self.now.memory.now).objects }
+        ensures { result ≡ looked K.Kind.empty (tables_of self.now.memory.now) self.now.p x seen }
+    {
+        judge(self.memory.objects[x], self.p, x, seen)
+    }
 
-// A look of p at the object of pair i of its read set.
-pub(crate) fn look_at_pair<K: Kind>(memory: &Memory<K>, p: usize, i: usize) -> Look<K>
-    requires ready { Ready (tables_of memory.now) p }
-    requires within { i < 32 }
-    requires named { (read_at (tables_of memory.now) p i).object < length (tables_of memory.now).objects }
-    ensures { result ≡ pair_looked K.Kind.empty (tables_of memory.now) p i }
-{
-    let pair = read_pair(memory, p, i);
-    look_at(memory, p, pair.object, Some(pair.value))
+    // A look at the object of pair i of the read set.
+    pub(crate) fn look_at_pair(&self, i: usize) -> Result<Object<K>, Conflict>
+        requires within { i < 32 }
+        requires named { (read_at (tables_of self.now.memory.now) self.now.p i).object < length (tables_of self.now.memory.now).objects }
+        ensures { result ≡ pair_looked K.Kind.empty (tables_of self.now.memory.now) self.now.p i }
+    {
+        let pair = self.memory.reads[self.p * READ_PLACES + i];
+        self.look_at(pair.object, Some(pair.value))
+    }
 }

@@ -1,24 +1,13 @@
 // The placing of a request: it alters the process's own record and hand place only.
 ghost use Rattle.std.specs.Prelude.{◌≡◌, ◌<◌, length};
+ghost use Rattle.std.specs.Result.{result_err};
 ghost use Rattle.tables.specs.Tables.{tables_of, process_at};
-ghost use Rattle.engine.specs.Ready.{Ready};
-ghost use Rattle.engine.specs.Place.{is_idle, due as is_due, access_no, object_no, request_no, first_phase, handed, place_call};
+ghost use Rattle.engine.specs.Place.{due as is_due, access_no, object_no, request_no, first_phase, handed, place_call};
 
-use super::places::{process, set_hand};
+use super::owner::Owner;
 use super::questions::questions;
-use super::sound::{readable, writable};
 use banks::LARGEST;
 use tables::{Ending, Kind, Memory, Phase, Refusal, Request};
-
-// Is no request in hand?
-fn idle(phase: Phase) -> bool
-    ensures { result ≡ is_idle phase }
-{
-    match phase {
-        Phase::Idle => true,
-        _ => false,
-    }
-}
 
 // Is a transaction open, or for a begin none?
 fn due<K: Kind>(request: Request<K>, live: bool) -> bool
@@ -30,48 +19,45 @@ fn due<K: Kind>(request: Request<K>, live: bool) -> bool
     }
 }
 
-// The questions on an object: is there one, and does its pair fit?
-fn access_question<K: Kind>(memory: &Memory<K>, x: usize, fits: bool) -> Option<Refusal>
-    ensures { result ≡ access_no (tables_of memory.now) x fits }
-{
-    if x >= memory.objects.len() {
-        return Some(Refusal::Object);
+impl<K: Kind> Owner<'_, K> {
+    // The questions on an object: is there one, and does its pair fit?
+    fn access_question(&self, x: usize, fits: bool) -> Result<(), Refusal>
+        ensures { result_err result ≡ access_no (tables_of self.now.memory.now) x fits }
+    {
+        if x >= self.memory.objects.len() {
+            return Err(Refusal::Object);
+        }
+        if fits { Ok(()) } else { Err(Refusal::Room) }
     }
-    if fits { None } else { Some(Refusal::Room) }
-}
 
-// The questions on the object of a request.
-fn object_question<K: Kind>(memory: &Memory<K>, p: usize, request: Request<K>) -> Option<Refusal>
-    requires { Ready (tables_of memory.now) p }
-    ensures { result ≡ object_no (tables_of memory.now) p request }
-{
-    match request {
-        Request::Read { object } => access_question(memory, object, readable(memory, p, object)),
-        Request::Write { object, .. } => access_question(
-            memory,
-            object,
-            writable(memory, p, object),
-        ),
-        _ => None,
+    // The questions on the object of a request.
+    fn object_question(&self, request: Request<K>) -> Result<(), Refusal>
+        ensures { result_err result ≡ object_no (tables_of self.now.memory.now) self.now.p request }
+    {
+        match request {
+            Request::Read { object } => self.access_question(object, self.readable(object)),
+            Request::Write { object, .. } => self.access_question(object, self.writable(object)),
+            _ => Ok(()),
+        }
     }
-}
 
-// The questions on a request, in their order.
-fn request_question<K: Kind>(memory: &Memory<K>, p: usize, request: Request<K>) -> Option<Refusal>
-    requires { Ready (tables_of memory.now) p }
-    ensures { result ≡ request_no (tables_of memory.now) p request }
-{
-    let r = process(memory, p);
-    if !idle(r.phase) {
-        return Some(Refusal::InHand);
+    // The questions on a request, in their order.
+    fn request_question(&self, request: Request<K>) -> Result<(), Refusal>
+        ensures { result_err result ≡ request_no (tables_of self.now.memory.now) self.now.p request }
+    {
+        let r = self.record();
+        if !matches!(r.phase, Phase::Idle) {
+            return Err(Refusal::InHand);
+        }
+        if !due(request, r.live) {
+            return Err(Refusal::Transaction);
+        }
+        self.object_question(request)
     }
-    if !due(request, r.live) {
-        return Some(Refusal::Transaction);
-    }
-    object_question(memory, p, request)
 }
 
 // The phase that a request starts in.
+// (d) No `From`: an impl of it for two types of another crate is refused.
 fn phase_for<K: Kind>(request: Request<K>) -> Phase
     ensures { result ≡ first_phase request }
 {
@@ -95,9 +81,8 @@ fn hand_over<K: Kind>(memory: &mut Memory<K>, p: usize, request: Request<K>)
     requires { p < length (tables_of memory.old).hands }
     ensures { tables_of memory.new ≡ handed (tables_of memory.old) p request }
 {
-    match request {
-        Request::Write { content, .. } => set_hand(memory, p, content),
-        _ => {}
+    if let Request::Write { content, .. } = request {
+        memory.hands[p] = content;
     }
 }
 
@@ -107,9 +92,7 @@ pub fn place<K: Kind>(memory: &mut Memory<K>, p: usize, request: Request<K>) -> 
     ensures after { tables_of memory.new ≡ (place_call K.Kind.empty (tables_of memory.old) p request).tables }
 {
     questions(memory, p)?;
-    if let Some(refusal) = request_question(memory, p, request) {
-        return Err(refusal);
-    }
+    Owner { memory, p }.request_question(request)?;
     hand_over(memory, p, request);
     let phase = phase_for(request);
     let r = &mut memory.processes[p];

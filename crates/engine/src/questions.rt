@@ -1,16 +1,18 @@
 // The questions that every call asks first: on the tables' sizes, the process, and the soundness of its record.
-ghost use Rattle.std.specs.Prelude.{◌≡◌, IfOk, Some, None, MatchResult};
+ghost use Rattle.std.specs.Prelude.{◌≡◌, IfOk};
+ghost use Rattle.std.specs.Result.{result_err};
 ghost use Rattle.tables.specs.Tables.{tables_of, process_at};
 ghost use Rattle.engine.specs.Ready.{Sound, PhaseFacts};
 ghost use Rattle.engine.specs.Sound.{refused};
 
-use super::places::process;
-use super::sound::{counts_fit, phase_fits, sets_fit, sized, steps_fit};
+use super::owner::Owner;
+use super::sound::{counts_fit, sized};
 use tables::{Kind, Memory, Process, Refusal};
 
 // The record of p, or the first question that is answered no.
+#[tactic(auto, unfolding(crate::specs::Sound::refused))]
 pub(crate) fn questions<K: Kind>(memory: &Memory<K>, p: usize) -> Result<Process, Refusal>
-    ensures number { MatchResult result (λ _. refused K.Kind.empty (tables_of memory.now) p ≡ None) (λ e. refused K.Kind.empty (tables_of memory.now) p ≡ Some e) }
+    ensures number { result_err result ≡ refused K.Kind.empty (tables_of memory.now) p }
     ensures is { IfOk result (λ q. q ≡ process_at (tables_of memory.now) p) }
     ensures sound { IfOk result (λ q. Sound K.Kind.empty (tables_of memory.now) p × PhaseFacts (tables_of memory.now) p q.phase) }
 {
@@ -20,18 +22,13 @@ pub(crate) fn questions<K: Kind>(memory: &Memory<K>, p: usize) -> Result<Process
     if p >= memory.processes.len() {
         return Err(Refusal::Process);
     }
-    let r = process(memory, p);
-    if !counts_fit(&r) {
+    if !counts_fit(&memory.processes[p]) {
         return Err(Refusal::Record);
     }
-    if !sets_fit(memory, p) {
-        return Err(Refusal::Record);
+    let owner = Owner { memory, p };
+    if owner.sets_fit() && owner.phase_fits() && owner.steps_fit() {
+        Ok(owner.record())
+    } else {
+        Err(Refusal::Record)
     }
-    if !phase_fits(memory, p, r) {
-        return Err(Refusal::Record);
-    }
-    if !steps_fit(memory, p, r) {
-        return Err(Refusal::Record);
-    }
-    Ok(r)
 }

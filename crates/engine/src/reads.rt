@@ -1,12 +1,17 @@
 // Reading: the content comes from the write set or from a look, and the pair joins the read set.
-ghost use Rattle.std.specs.Prelude.{◌≡◌, ◌<◌, true, None};
+ghost use Rattle.std.specs.Prelude.{◌≡◌, ◌+◌, ◌<◌, None};
 ghost use Rattle.tables.specs.Lookup.{value_of};
 ghost use Rattle.tables.specs.Tables.{tables_of, process_at, read_set};
 ghost use Rattle.engine.specs.Ready.{Ready};
+ghost use Rattle.engine.specs.Outcome.{outcome};
 ghost use Rattle.engine.specs.Reads.{current, joined, pending_read, admitted};
 
-use super::places::{complete, go_on, process, read_set, set_hand, set_read_pair};
-use tables::{Access, Answer, Effect, Kind, Memory, Object, Phase, Process, Slot, Stepped};
+use super::outcome::{answering, going};
+use super::owner::Owner;
+use super::record::{complete, go_on};
+use tables::{
+    Access, Answer, Effect, Kind, Memory, Object, Phase, Process, READ_PLACES, Slot, Stepped, put,
+};
 
 // Does an access at a stamp need no extension?
 pub(crate) fn is_current(r: &Process, stamp: u64) -> bool
@@ -18,45 +23,44 @@ pub(crate) fn is_current(r: &Process, stamp: u64) -> bool
 // Fetches a pending content.
 pub(crate) fn read_pending<K: Kind>(memory: &mut Memory<K>, p: usize, content: K) -> Stepped<K>
     requires { Ready (tables_of memory.old) p }
-    ensures reply { result ≡ (pending_read (tables_of memory.old) p content).reply }
-    ensures after { tables_of memory.new ≡ (pending_read (tables_of memory.old) p content).tables }
+    ensures { outcome result (tables_of memory.new) ≡ pending_read (tables_of memory.old) p content }
 {
-    let r = process(memory, p);
-    set_hand(memory, p, content);
-    complete(memory, p, r.clock);
-    Stepped {
-        effect: Effect::Nothing,
-        answer: Some(Answer::Read {
-            content,
-            steps: r.steps + 1,
-        }),
-    }
+    memory.hands[p] = content;
+    let r = &mut memory.processes[p];
+    let clock = r.clock;
+    let steps = complete(r, clock);
+    answering(Effect::Nothing, Answer::Read { content, steps })
 }
 
-// The read of x is answered at the clock: its pair joins the read set where x is not in it.
-pub(crate) fn join_read<K: Kind>(memory: &mut Memory<K>, p: usize, x: usize, stamp: u64, clock: u64)
+// The read of x is answered at the clock: its pair joins the read set where x is not in it. The result is the number
+// of steps that the request took.
+pub(crate) fn join_read<K: Kind>(
+    memory: &mut Memory<K>,
+    p: usize,
+    x: usize,
+    stamp: u64,
+    clock: u64,
+) -> usize
     requires ready { Ready (tables_of memory.old) p }
     requires room { value_of (read_set (tables_of memory.old) p) x ≡ None → (process_at (tables_of memory.old) p).reads < 32 }
-    ensures { tables_of memory.new ≡ joined (tables_of memory.old) p x stamp clock (value_of (read_set (tables_of memory.old) p) x) }
+    ensures steps { result ≡ (process_at (tables_of memory.old) p).steps + 1 }
+    ensures after { tables_of memory.new ≡ joined (tables_of memory.old) p x stamp clock (value_of (read_set (tables_of memory.old) p) x) }
 {
-    let count = process(memory, p).reads;
-    match read_set(memory, p).get(x) {
-        Some(_) => complete(memory, p, clock),
+    let count = memory.processes[p].reads;
+    match (Owner { memory, p }).reads().get(x) {
+        Some(_) => complete(&mut memory.processes[p], clock),
         None => {
-            set_read_pair(
-                memory,
-                p,
-                count,
+            put(
+                &mut memory.reads,
+                p * READ_PLACES + count,
                 Slot {
                     object: x,
                     value: stamp,
                 },
             );
             let r = &mut memory.processes[p];
-            r.clock = clock;
-            r.reads = count + 1;
-            r.steps = 0;
-            r.phase = Phase::Idle;
+            r.reads += 1;
+            complete(r, clock)
         }
     }
 }
@@ -70,25 +74,17 @@ pub(crate) fn admit_read<K: Kind>(
 ) -> Stepped<K>
     requires ready { Ready (tables_of memory.old) p }
     requires room { value_of (read_set (tables_of memory.old) p) x ≡ None → (process_at (tables_of memory.old) p).reads < 32 }
-    ensures reply { result ≡ (admitted (tables_of memory.old) p x found).reply }
-    ensures after { tables_of memory.new ≡ (admitted (tables_of memory.old) p x found).tables }
+    ensures { outcome result (tables_of memory.new) ≡ admitted (tables_of memory.old) p x found }
 {
-    let r = process(memory, p);
+    let r = memory.processes[p];
     let content = found.content.copied();
-    set_hand(memory, p, content);
+    memory.hands[p] = content;
     if is_current(&r, found.stamp) {
-        join_read(memory, p, x, found.stamp, r.clock.max(found.stamp));
-        return Stepped {
-            effect: Effect::Nothing,
-            answer: Some(Answer::Read {
-                content,
-                steps: r.steps + 1,
-            }),
-        };
+        let steps = join_read(memory, p, x, found.stamp, r.clock.max(found.stamp));
+        return answering(Effect::Nothing, Answer::Read { content, steps });
     }
     go_on(
-        memory,
-        p,
+        &mut memory.processes[p],
         Phase::Extending {
             object: x,
             to: found.stamp,
@@ -96,8 +92,5 @@ pub(crate) fn admit_read<K: Kind>(
             access: Access::Read,
         },
     );
-    Stepped {
-        effect: Effect::Nothing,
-        answer: None,
-    }
+    going(Effect::Nothing)
 }

@@ -1,11 +1,10 @@
 // Is the record of a process sound? Each test is pinned by its definition; a call is refused where one fails.
 // The tests look at the process's own record and sets, and at the objects that these name.
-ghost use Rattle.std.specs.Prelude.{◌≡◌, ◌+◌, ◌≤◌, nat_le};
+ghost use Rattle.std.specs.Prelude.{◌≡◌, ◌+◌, ◌≤◌, length, nat_le};
 ghost use Rattle.tables.specs.Tables.{tables_of, process_at, sizes_ok};
-ghost use Rattle.engine.specs.Ready.{Ready};
 ghost use Rattle.engine.specs.Sound.{object_ok, named_ok, all_named, distinct as apart, stamps_ok, counts_ok, room, sets_ok, readable as can_read, writable as can_write, access_room, conflict_ok, ending_ok, steps_left, phase_ok};
 
-use super::places::{process, read_set, write_set};
+use super::owner::Owner;
 use banks::LARGEST;
 use tables::{
     Access, Conflict, Ending, Kind, Map, Memory, Object, Phase, Process, READ_PLACES, Slot,
@@ -40,216 +39,175 @@ pub(crate) fn counts_fit(r: &Process) -> bool
 fn object_fits<K: Kind>(o: &Object<K>, count: usize) -> bool
     ensures { result ≡ object_ok o.now count }
 {
-    if o.stamp > LARGEST {
-        return false;
-    }
-    match o.holder {
-        None => true,
-        Some(q) => q < count,
-    }
-}
-
-// Is x an object, with a stamp and a holder in range?
-fn is_named<K: Kind>(objects: &[Object<K>], count: usize, x: usize) -> bool
-    ensures { result ≡ named_ok K.Kind.empty objects.now count x }
-{
-    x < objects.len() && object_fits(&objects[x], count)
-}
-
-// Does each pair name such an object?
-fn all_named<K: Kind, V: Copy>(objects: &[Object<K>], count: usize, slots: &[Slot<V>]) -> bool
-    ensures { result ≡ all_named K.Kind.empty objects.now count slots.now }
-{
-    for slot in slots {
-        if !is_named(objects, count, slot.object) {
-            return false;
-        }
-    }
-    true
+    o.stamp <= LARGEST && o.holder.is_none_or(|q| q < count)
 }
 
 // Is each stamp within its limit?
 fn stamps_fit(slots: &[Slot<u64>]) -> bool
     ensures { result ≡ stamps_ok slots.now }
 {
-    for slot in slots {
-        if slot.value > LARGEST {
-            return false;
-        }
-    }
-    true
+    slots.iter().all(|slot| slot.value <= LARGEST)
 }
 
 // Is no object there twice?
 fn all_apart<V: Copy>(slots: &[Slot<V>]) -> bool
     ensures { result ≡ apart slots.now }
 {
-    for (i, slot) in slots.iter().enumerate() {
-        let rest = Map {
-            slots: &slots[i + 1..],
-        };
-        if rest.get(slot.object).is_some() {
+    let mut rest = slots;
+    while let [first, after @ ..] = rest {
+        let later = Map { slots: after };
+        if later.get(first.object).is_some() {
             return false;
         }
+        rest = after;
     }
     true
 }
 
-// Are both sets of p sound?
-pub(crate) fn sets_fit<K: Kind>(memory: &Memory<K>, p: usize) -> bool
-    requires { Ready (tables_of memory.now) p }
-    ensures { result ≡ sets_ok K.Kind.empty (tables_of memory.now) p }
+// Is x in the set, or has the set fewer pairs than `most`?
+fn has_room<V: Copy>(set: Map<'_, V>, most: usize, x: usize) -> bool
+    ensures { result ≡ room set.entry.slots.now (length set.entry.slots.now) most x }
 {
-    let objects = memory.objects.as_slice();
-    let count = memory.processes.len();
-    let reads = read_set(memory, p).slots;
-    let writes = write_set(memory, p).slots;
-    all_named(objects, count, reads)
-        && all_named(objects, count, writes)
-        && stamps_fit(reads)
-        && all_apart(reads)
-        && all_apart(writes)
+    set.get(x).is_some() || set.slots.len() < most
 }
 
-// Is x in the set of n pairs, or has the set a free place?
-fn has_room<V: Copy>(set: Map<'_, V>, n: usize, most: usize, x: usize) -> bool
-    ensures { result ≡ room set.entry.slots.now n most x }
-{
-    set.get(x).is_some() || n < most
-}
-
-// May p read x: is it in a set of p, or has the read set a free place?
-pub(crate) fn readable<K: Kind>(memory: &Memory<K>, p: usize, x: usize) -> bool
-    requires { Ready (tables_of memory.now) p }
-    ensures { result ≡ can_read (tables_of memory.now) p x }
-{
-    write_set(memory, p).get(x).is_some()
-        || has_room(
-            read_set(memory, p),
-            process(memory, p).reads,
-            READ_PLACES,
-            x,
-        )
-}
-
-// May p write x: is it in the write set of p, or has that a free place?
-pub(crate) fn writable<K: Kind>(memory: &Memory<K>, p: usize, x: usize) -> bool
-    requires { Ready (tables_of memory.now) p }
-    ensures { result ≡ can_write (tables_of memory.now) p x }
-{
-    has_room(
-        write_set(memory, p),
-        process(memory, p).writes,
-        WRITE_PLACES,
-        x,
-    )
-}
-
-// Has the pair of an extended access a place?
-fn access_fits<K: Kind>(memory: &Memory<K>, p: usize, x: usize, access: Access) -> bool
-    requires { Ready (tables_of memory.now) p }
-    ensures { result ≡ access_room (tables_of memory.now) p x access }
-{
-    match access {
-        Access::Read => has_room(
-            read_set(memory, p),
-            process(memory, p).reads,
-            READ_PLACES,
-            x,
-        ),
-        Access::Write => true,
+impl<K: Kind> Owner<'_, K> {
+    // Is x an object, with a stamp and a holder in range?
+    fn is_named(&self, x: usize) -> bool
+        ensures { result ≡ named_ok K.Kind.empty (tables_of self.now.memory.now).objects (length (tables_of self.now.memory.now).processes) x }
+    {
+        let objects = self.memory.objects.as_slice();
+        x < objects.len() && object_fits(&objects[x], self.memory.processes.len())
     }
-}
 
-// Is the object that a conflict names one?
-fn conflict_fits<K: Kind>(objects: &[Object<K>], count: usize, conflict: Conflict) -> bool
-    ensures { result ≡ conflict_ok K.Kind.empty objects.now count conflict }
-{
-    match conflict {
-        Conflict::Held { object } => is_named(objects, count, object),
-        Conflict::Changed { object } => is_named(objects, count, object),
-        Conflict::Spent => true,
+    // Does each pair name such an object?
+    fn all_named<V: Copy>(&self, slots: &[Slot<V>]) -> bool
+        ensures { result ≡ all_named K.Kind.empty (tables_of self.now.memory.now).objects (length (tables_of self.now.memory.now).processes) slots.now }
+    {
+        slots.iter().all(|slot| self.is_named(slot.object))
     }
-}
 
-fn ending_fits<K: Kind>(objects: &[Object<K>], count: usize, ending: Ending) -> bool
-    ensures { result ≡ ending_ok K.Kind.empty objects.now count ending }
-{
-    match ending {
-        Ending::Abort { conflict } => conflict_fits(objects, count, conflict),
-        Ending::Withdraw => true,
+    // Are both sets sound?
+    pub(crate) fn sets_fit(&self) -> bool
+        ensures { result ≡ sets_ok K.Kind.empty (tables_of self.now.memory.now) self.now.p }
+    {
+        let reads = self.reads().slots;
+        let writes = self.writes().slots;
+        self.all_named(reads)
+            && self.all_named(writes)
+            && stamps_fit(reads)
+            && all_apart(reads)
+            && all_apart(writes)
     }
-}
 
-// The steps that the request of p may still make.
-fn possible_steps<K: Kind>(memory: &Memory<K>, p: usize, r: Process) -> usize
-    requires ready { Ready (tables_of memory.now) p }
-    requires is { r ≡ process_at (tables_of memory.now) p }
-    ensures value { result ≡ steps_left (tables_of memory.now) p r r.phase }
-    ensures bound { result ≤ 64 }
-{
-    match r.phase {
-        Phase::Idle => 0,
-        Phase::Beginning { next, .. } => memory.processes.len().saturating_sub(next),
-        Phase::Reading { object } => if write_set(memory, p).get(object).is_some() {
-            1
-        } else {
-            1 + r.reads + r.writes
-        },
-        Phase::Writing { object } => if write_set(memory, p).get(object).is_some() {
-            1
-        } else {
-            2 + r.reads + r.writes
-        },
-        Phase::Extending { next, .. } => r.reads.saturating_sub(next) + r.writes,
-        Phase::Certifying { next } => r.reads.saturating_sub(next) + 1 + r.writes,
-        Phase::Storing { next } => r.writes.saturating_sub(next),
-        Phase::Freeing { next, .. } => if r.writes == 0 {
-            1
-        } else {
-            r.writes.saturating_sub(next)
-        },
+    // May the process read x: is x in a set of it, or has the read set a free place?
+    pub(crate) fn readable(&self, x: usize) -> bool
+        ensures { result ≡ can_read (tables_of self.now.memory.now) self.now.p x }
+    {
+        self.writes().get(x).is_some() || has_room(self.reads(), READ_PLACES, x)
     }
-}
 
-// Are the steps done and those still possible at most 64?
-pub(crate) fn steps_fit<K: Kind>(memory: &Memory<K>, p: usize, r: Process) -> bool
-    requires ready { Ready (tables_of memory.now) p }
-    requires is { r ≡ process_at (tables_of memory.now) p }
-    ensures { result ≡ nat_le (r.steps + steps_left (tables_of memory.now) p r r.phase) 64 }
-{
-    r.steps + possible_steps(memory, p, r) <= MOST_STEPS
-}
+    // May the process write x: is x in the write set, or has that a free place?
+    pub(crate) fn writable(&self, x: usize) -> bool
+        ensures { result ≡ can_write (tables_of self.now.memory.now) self.now.p x }
+    {
+        has_room(self.writes(), WRITE_PLACES, x)
+    }
 
-// Is what the phase of p names there?
-pub(crate) fn phase_fits<K: Kind>(memory: &Memory<K>, p: usize, r: Process) -> bool
-    requires ready { Ready (tables_of memory.now) p }
-    requires is { r ≡ process_at (tables_of memory.now) p }
-    ensures { result ≡ phase_ok K.Kind.empty (tables_of memory.now) p r r.phase }
-{
-    let objects = memory.objects.as_slice();
-    let count = memory.processes.len();
-    match r.phase {
-        Phase::Idle => true,
-        Phase::Beginning { next, least } => next < count && least <= LARGEST,
-        Phase::Reading { object } => is_named(objects, count, object)
-            && readable(memory, p, object),
-        Phase::Writing { object } => is_named(objects, count, object)
-            && writable(memory, p, object),
-        Phase::Extending {
-            object,
-            to,
-            next,
-            access,
-        } => {
-            is_named(objects, count, object)
-                && to <= LARGEST
-                && next < r.reads
-                && access_fits(memory, p, object, access)
+    // Has the pair of an extended access a place?
+    fn access_fits(&self, x: usize, access: Access) -> bool
+        ensures { result ≡ access_room (tables_of self.now.memory.now) self.now.p x access }
+    {
+        match access {
+            Access::Read => has_room(self.reads(), READ_PLACES, x),
+            Access::Write => true,
         }
-        Phase::Certifying { next } => next <= r.reads,
-        Phase::Storing { next } => next < r.writes,
-        Phase::Freeing { next, ending } => (r.writes == 0 || next < r.writes)
-            && ending_fits(objects, count, ending),
+    }
+
+    // Is the object that a conflict names one?
+    fn conflict_fits(&self, conflict: Conflict) -> bool
+        ensures { result ≡ conflict_ok K.Kind.empty (tables_of self.now.memory.now).objects (length (tables_of self.now.memory.now).processes) conflict }
+    {
+        match conflict {
+            Conflict::Held { object } | Conflict::Changed { object } => self.is_named(object),
+            Conflict::Spent => true,
+        }
+    }
+
+    fn ending_fits(&self, ending: Ending) -> bool
+        ensures { result ≡ ending_ok K.Kind.empty (tables_of self.now.memory.now).objects (length (tables_of self.now.memory.now).processes) ending }
+    {
+        match ending {
+            Ending::Abort { conflict } => self.conflict_fits(conflict),
+            Ending::Withdraw => true,
+        }
+    }
+
+    // The steps that the request may still make.
+    fn possible_steps(&self) -> usize
+        ensures value { result ≡ steps_left (tables_of self.now.memory.now) self.now.p (process_at (tables_of self.now.memory.now) self.now.p) (process_at (tables_of self.now.memory.now) self.now.p).phase }
+        ensures bound { result ≤ 64 }
+    {
+        let r = self.record();
+        match r.phase {
+            Phase::Idle => 0,
+            Phase::Beginning { next, .. } => self.memory.processes.len().saturating_sub(next),
+            Phase::Reading { object } => if self.writes().get(object).is_some() {
+                1
+            } else {
+                1 + r.reads + r.writes
+            },
+            Phase::Writing { object } => if self.writes().get(object).is_some() {
+                1
+            } else {
+                2 + r.reads + r.writes
+            },
+            Phase::Extending { next, .. } => r.reads.saturating_sub(next) + r.writes,
+            Phase::Certifying { next } => r.reads.saturating_sub(next) + 1 + r.writes,
+            Phase::Storing { next } => r.writes.saturating_sub(next),
+            Phase::Freeing { next, .. } => if r.writes == 0 {
+                1
+            } else {
+                r.writes.saturating_sub(next)
+            },
+        }
+    }
+
+    // Are the steps done and those still possible at most 64?
+    pub(crate) fn steps_fit(&self) -> bool
+        ensures { result ≡ nat_le ((process_at (tables_of self.now.memory.now) self.now.p).steps + steps_left (tables_of self.now.memory.now) self.now.p (process_at (tables_of self.now.memory.now) self.now.p) (process_at (tables_of self.now.memory.now) self.now.p).phase) 64 }
+    {
+        self.record().steps + self.possible_steps() <= MOST_STEPS
+    }
+
+    // Is what the phase names there?
+    pub(crate) fn phase_fits(&self) -> bool
+        ensures { result ≡ phase_ok K.Kind.empty (tables_of self.now.memory.now) self.now.p (process_at (tables_of self.now.memory.now) self.now.p) (process_at (tables_of self.now.memory.now) self.now.p).phase }
+    {
+        let r = self.record();
+        match r.phase {
+            Phase::Idle => true,
+            Phase::Beginning { next, least } => {
+                next < self.memory.processes.len() && least <= LARGEST
+            }
+            Phase::Reading { object } => self.is_named(object) && self.readable(object),
+            Phase::Writing { object } => self.is_named(object) && self.writable(object),
+            Phase::Extending {
+                object,
+                to,
+                next,
+                access,
+            } => {
+                self.is_named(object)
+                    && to <= LARGEST
+                    && next < r.reads
+                    && self.access_fits(object, access)
+            }
+            Phase::Certifying { next } => next <= r.reads,
+            Phase::Storing { next } => next < r.writes,
+            Phase::Freeing { next, ending } => {
+                (r.writes == 0 || next < r.writes) && self.ending_fits(ending)
+            }
+        }
     }
 }

@@ -2,6 +2,7 @@
 ghost use Rattle.std.specs.Prelude.{◌≡◌, ◌<◌, length};
 ghost use Rattle.tables.specs.Tables.{tables_of, process_at, read_at};
 ghost use Rattle.engine.specs.Ready.{Ready, Sound, PhaseFacts};
+ghost use Rattle.engine.specs.Outcome.{outcome};
 ghost use Rattle.engine.specs.Look.{pair_looked};
 ghost use Rattle.engine.specs.Looked.{Looks, after_look};
 ghost use Rattle.engine.specs.Step.{commit_step, commit_bank, phase_step, phase_bank, step_call, step_bank};
@@ -9,12 +10,23 @@ ghost use Rattle.engine.specs.Step.{commit_step, commit_bank, phase_step, phase_
 use super::begin::begin_step;
 use super::commit::{finish_commit, seal_step, store_step};
 use super::ends::free_step;
-use super::look::look_at_pair;
 use super::looked::{follow_look, read_step, write_step};
-use super::places::process;
+use super::owner::Owner;
 use super::questions::questions;
 use banks::Bank;
 use tables::{Effect, Kind, Memory, Phase, Refusal, Stepped};
+
+// A step that looks at pair `next` of the read set: the look and what follows it.
+fn pair_step<K: Kind>(memory: &mut Memory<K>, p: usize, phase: Phase, next: usize) -> Stepped<K>
+    requires ready { Ready (tables_of memory.old) p }
+    requires within { next < 32 }
+    requires looks { Looks (tables_of memory.old) p phase }
+    requires named { (read_at (tables_of memory.old) p next).object < length (tables_of memory.old).objects }
+    ensures { outcome result (tables_of memory.new) ≡ after_look K.Kind.empty (tables_of memory.old) p phase (pair_looked K.Kind.empty (tables_of memory.old) p next) }
+{
+    let look = Owner { memory, p }.look_at_pair(next);
+    follow_look(memory, p, phase, look)
+}
 
 // A step of a commit before anything is stored.
 fn commit_step<K: Kind, B: Bank>(
@@ -25,14 +37,12 @@ fn commit_step<K: Kind, B: Bank>(
 ) -> Stepped<K>
     requires ready { Ready (tables_of memory.old) p }
     requires named { next < (process_at (tables_of memory.old) p).reads → (read_at (tables_of memory.old) p next).object < length (tables_of memory.old).objects }
-    ensures reply { result ≡ (commit_step K.Kind.empty (B.Bank.number bank.old p) (tables_of memory.old) p next).reply }
-    ensures after { tables_of memory.new ≡ (commit_step K.Kind.empty (B.Bank.number bank.old p) (tables_of memory.old) p next).tables }
+    ensures after { outcome result (tables_of memory.new) ≡ commit_step K.Kind.empty (B.Bank.number bank.old p) (tables_of memory.old) p next }
     ensures bank { bank.new ≡ commit_bank B.Bank.number B.Bank.moved (tables_of memory.old) bank.old p next }
 {
-    let r = process(memory, p);
+    let r = memory.processes[p];
     if next < r.reads {
-        let look = look_at_pair(memory, p, next);
-        return follow_look(memory, p, Phase::Certifying { next }, look);
+        return pair_step(memory, p, Phase::Certifying { next }, next);
     }
     if r.writes == 0 {
         return finish_commit(memory, p, Effect::Nothing);
@@ -40,20 +50,8 @@ fn commit_step<K: Kind, B: Bank>(
     seal_step(memory, bank, p)
 }
 
-// A step of an extension: the look at pair `next` and what follows it.
-fn extend_step<K: Kind>(memory: &mut Memory<K>, p: usize, phase: Phase, next: usize) -> Stepped<K>
-    requires ready { Ready (tables_of memory.old) p }
-    requires within { next < 32 }
-    requires looks { Looks (tables_of memory.old) p phase }
-    requires named { (read_at (tables_of memory.old) p next).object < length (tables_of memory.old).objects }
-    ensures reply { result ≡ (after_look K.Kind.empty (tables_of memory.old) p phase (pair_looked K.Kind.empty (tables_of memory.old) p next)).reply }
-    ensures after { tables_of memory.new ≡ (after_look K.Kind.empty (tables_of memory.old) p phase (pair_looked K.Kind.empty (tables_of memory.old) p next)).tables }
-{
-    let look = look_at_pair(memory, p, next);
-    follow_look(memory, p, phase, look)
-}
-
 // The step of a phase.
+// (a) A rule of the project: this is a `match` on the phase.
 fn phase_step<K: Kind, B: Bank>(
     memory: &mut Memory<K>,
     bank: &mut B,
@@ -62,8 +60,7 @@ fn phase_step<K: Kind, B: Bank>(
 ) -> Result<Stepped<K>, Refusal>
     requires sound { Sound K.Kind.empty (tables_of memory.old) p }
     requires facts { PhaseFacts (tables_of memory.old) p phase }
-    ensures reply { result ≡ (phase_step K.Kind.empty (B.Bank.number bank.old) (tables_of memory.old) p phase).reply }
-    ensures after { tables_of memory.new ≡ (phase_step K.Kind.empty (B.Bank.number bank.old) (tables_of memory.old) p phase).tables }
+    ensures after { outcome result (tables_of memory.new) ≡ phase_step K.Kind.empty (B.Bank.number bank.old) (tables_of memory.old) p phase }
     ensures bank { bank.new ≡ phase_bank B.Bank.number B.Bank.moved (tables_of memory.old) bank.old p phase }
 {
     match phase {
@@ -71,7 +68,7 @@ fn phase_step<K: Kind, B: Bank>(
         Phase::Beginning { next, least } => Ok(begin_step(memory, bank, p, next, least)),
         Phase::Reading { object } => Ok(read_step(memory, p, object)),
         Phase::Writing { object } => Ok(write_step(memory, p, object)),
-        Phase::Extending { next, .. } => Ok(extend_step(memory, p, phase, next)),
+        Phase::Extending { next, .. } => Ok(pair_step(memory, p, phase, next)),
         Phase::Certifying { next } => Ok(commit_step(memory, bank, p, next)),
         Phase::Storing { next } => Ok(store_step(memory, p, next)),
         Phase::Freeing { next, ending } => Ok(free_step(memory, p, next, ending)),

@@ -2,27 +2,32 @@
 ghost use Rattle.std.specs.Prelude.{◌≡◌, ◌<◌, length};
 ghost use Rattle.tables.specs.Tables.{tables_of, process_at};
 ghost use Rattle.engine.specs.Ready.{Ready};
+ghost use Rattle.engine.specs.Outcome.{outcome};
 ghost use Rattle.engine.specs.Writes.{rewritten, held};
 
-use super::places::{complete, hand, process, set_object, set_write_pair};
+use super::outcome::{answering, going};
 use super::reads::is_current;
-use tables::{Access, Answer, Effect, Kind, Memory, Object, Phase, Slot, Stepped};
+use super::record::{complete, go_on};
+use tables::{
+    Access, Answer, Effect, Kind, Memory, Object, Phase, Slot, Stepped, WRITE_PLACES, put,
+};
 
 // Replaces the pending content in place i, which is that of x.
 pub(crate) fn rewrite<K: Kind>(memory: &mut Memory<K>, p: usize, x: usize, i: usize) -> Stepped<K>
     requires ready { Ready (tables_of memory.old) p }
     requires within { i < 16 }
-    ensures reply { result ≡ (rewritten K.Kind.empty (tables_of memory.old) p x i).reply }
-    ensures after { tables_of memory.new ≡ (rewritten K.Kind.empty (tables_of memory.old) p x i).tables }
+    ensures { outcome result (tables_of memory.new) ≡ rewritten K.Kind.empty (tables_of memory.old) p x i }
 {
-    let r = process(memory, p);
-    let value = hand(memory, p);
-    set_write_pair(memory, p, i, Slot { object: x, value });
-    complete(memory, p, r.clock);
-    Stepped {
-        effect: Effect::Nothing,
-        answer: Some(Answer::Written { steps: r.steps + 1 }),
-    }
+    let value = memory.hands[p];
+    put(
+        &mut memory.writes,
+        p * WRITE_PLACES + i,
+        Slot { object: x, value },
+    );
+    let r = &mut memory.processes[p];
+    let clock = r.clock;
+    let steps = complete(r, clock);
+    answering(Effect::Nothing, Answer::Written { steps })
 }
 
 // The look of a write has passed: p becomes the holder of x.
@@ -35,43 +40,34 @@ pub(crate) fn hold<K: Kind>(
     requires ready { Ready (tables_of memory.old) p }
     requires object { x < length (tables_of memory.old).objects }
     requires room { (process_at (tables_of memory.old) p).writes < 16 }
-    ensures reply { result ≡ (held K.Kind.empty (tables_of memory.old) p x found).reply }
-    ensures after { tables_of memory.new ≡ (held K.Kind.empty (tables_of memory.old) p x found).tables }
+    ensures { outcome result (tables_of memory.new) ≡ held K.Kind.empty (tables_of memory.old) p x found }
 {
-    let before = process(memory, p);
-    let value = hand(memory, p);
-    set_object(
-        memory,
-        x,
-        Object {
-            holder: Some(p),
-            ..found
+    let before = memory.processes[p];
+    let value = memory.hands[p];
+    memory.objects[x] = Object {
+        holder: Some(p),
+        ..found
+    };
+    put(
+        &mut memory.writes,
+        p * WRITE_PLACES + before.writes,
+        Slot { object: x, value },
+    );
+    let effect = Effect::Took { object: x };
+    let r = &mut memory.processes[p];
+    r.writes += 1;
+    if is_current(&before, found.stamp) {
+        let steps = complete(r, before.clock.max(found.stamp));
+        return answering(effect, Answer::Written { steps });
+    }
+    go_on(
+        r,
+        Phase::Extending {
+            object: x,
+            to: found.stamp,
+            next: 0,
+            access: Access::Write,
         },
     );
-    set_write_pair(memory, p, before.writes, Slot { object: x, value });
-    let effect = Effect::Took { object: x };
-    let steps = before.steps + 1;
-    let current = is_current(&before, found.stamp);
-    let r = &mut memory.processes[p];
-    r.writes = before.writes + 1;
-    if current {
-        r.clock = before.clock.max(found.stamp);
-        r.steps = 0;
-        r.phase = Phase::Idle;
-        return Stepped {
-            effect,
-            answer: Some(Answer::Written { steps }),
-        };
-    }
-    r.steps = steps;
-    r.phase = Phase::Extending {
-        object: x,
-        to: found.stamp,
-        next: 0,
-        access: Access::Write,
-    };
-    Stepped {
-        effect,
-        answer: None,
-    }
+    going(effect)
 }

@@ -156,7 +156,7 @@ module _ {K : Type 0} where
           }
         where
           clash : {m : Maker} → of_version m ≡ pending → ⊥
-          clash e = let z : ◌≡◌ {A = ℕ} 0 1 = cc in omega arith
+          clash e = cc
 
       -- t becomes a holder, over version i
       pub logs_take : (h : Hold) (i : ℕ) → h.over ≡ name maker i → ((k : ℕ) → 0 < k → k ≤ seals → maker k ≡ t → ⊥)

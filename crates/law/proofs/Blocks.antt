@@ -172,10 +172,10 @@ module _ {K : Type 0} where
         absurd (let l = st.in_hand run x k v g in other x l.0.0 (Some (version (name (history es).maker ((history es).fetched p)))) (sym q ∙ l.0.1))
 
     begin_read : (n : ℕ) (f : Option Found) (x m : ℕ) (g : Option Found) → ◌≡◌ {A = Desk K} (asked Begin n f) (asked (Read x) m g) → ⊥
-    begin_read n f x m g e = let z : ◌≡◌ {A = ℕ} 0 1 = cc in omega arith
+    begin_read n f x m g e = cc
 
     write_read : (y : ℕ) (w : K) (n : ℕ) (f : Option Found) (x m : ℕ) (g : Option Found) → asked (Write y w) n f ≡ asked (Read x) m g → ⊥
-    write_read y w n f x m g e = let z : ◌≡◌ {A = ℕ} 0 1 = cc in omega arith
+    write_read y w n f x m g e = cc
 
     -- p runs on, with d in hand, the operations ops and the holds hs
     runs_on : (z : Stepped K) (d : Desk K) → desk j p ≡ d → (g : Phase) → g ≡ running → (h : Hand K) (fetched : ℕ) (begun : Option ℕ) (sealed : Bool) (ops : ℕ → List (Operation K)) (ds : List (Operation K)) (hs : List Hold)

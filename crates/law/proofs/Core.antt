@@ -257,7 +257,7 @@ module _ {K : Type 0} where
           }
         where
           clash : {m : Maker} → version m ≡ pending → ⊥
-          clash e = let z : ◌≡◌ {A = ℕ} 0 1 = cc in omega arith
+          clash e = cc
 
     -- p writes x again
     pub core_rewrite : (x : ℕ) (v w : K) (k : ℕ) → (state start b es).phase p ≡ running → (state start b es).held x ≡ by p w → Covers (makers j) (holds j ((history es).current p)) → Known (begun_at j ((history es).current p))

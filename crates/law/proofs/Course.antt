@@ -228,7 +228,7 @@ module _ {K : Type 0} where
   soon e P t j g same p d r n f q = go d.hand
     where
       go : (((process_at t p).phase ≡ Idle) × (desk j p ≡ free)) ⊎ ((k : Request K) × (i : Option Found) × Asks (hand_at e t p) (process_at t p).phase k × (desk j p ≡ asked k (process_at t p).steps i)) → n < most P r
-      go (inl h) = absurd (let i : free ≡ asked r n f = sym h.1 ∙ q in let z : ◌≡◌ {A = ℕ} 0 1 = cc in omega arith)
+      go (inl h) = absurd (let i : free ≡ asked r n f = sym h.1 ∙ q in cc)
       go (inr h) =
           let i : asked h.0 (process_at t p).steps h.1 ≡ asked r n f = sym h.3 ∙ q in
           let er : h.0 ≡ r = cc in
@@ -263,8 +263,8 @@ module _ {K : Type 0} where
   idle_step e number t p z idle = go (refused e t p)
     where
       go : (o : Option Refusal) → (step_unless o e number t p).reply ≡ Ok z → ⊥
-      go (Some q) h = let i : ◌≡◌ {A = ℕ} 0 1 = cc in omega arith
-      go None h = let k = subst (λ (f : table.Phase). (phase_step e number t p f).reply ≡ Ok z) idle h in let i : ◌≡◌ {A = ℕ} 0 1 = cc in omega arith
+      go (Some q) h = cc
+      go None h = let k = subst (λ (f : table.Phase). (phase_step e number t p f).reply ≡ Ok z) idle h in cc
 
   -- the answer's count, by the request in hand
   counted : (P : ℕ) (d : Desk K) (r : Request K) (n : ℕ) (f : Option Found) (o : Option ℕ) → d ≡ asked r n f → n < most P r → ((k : ℕ) → o ≡ Some k → k ≡ n + 1) → Counted P d o
@@ -449,10 +449,10 @@ module _ {K B : Type 0} (e : K) (number : B → ℕ → ℕ) (moved : B → ℕ 
         not_live : (k : Bool) → not k ≡ true → k ≡ false
         not_live false h = refl
         not_live true h = absurd (true_false (sym h))
-    kept (Read x) idle d = (matches_ask P start b j c.events c.lawful c.matches p (who_is d) (runs idle d) (nothing idle) (Read x) (λ i. let z : ◌≡◌ {A = ℕ} 0 1 = cc in omega arith), watch_ask (Read x))
-    kept (Write x v) idle d = (matches_ask P start b j c.events c.lawful c.matches p (who_is d) (runs idle d) (nothing idle) (Write x v) (λ i. let z : ◌≡◌ {A = ℕ} 0 1 = cc in omega arith), watch_ask (Write x v))
-    kept Commit idle d = (matches_ask P start b j c.events c.lawful c.matches p (who_is d) (runs idle d) (nothing idle) Commit (λ i. let z : ◌≡◌ {A = ℕ} 0 1 = cc in omega arith), watch_ask Commit)
-    kept Withdraw idle d = (matches_ask P start b j c.events c.lawful c.matches p (who_is d) (runs idle d) (nothing idle) Withdraw (λ i. let z : ◌≡◌ {A = ℕ} 0 1 = cc in omega arith), watch_ask Withdraw)
+    kept (Read x) idle d = (matches_ask P start b j c.events c.lawful c.matches p (who_is d) (runs idle d) (nothing idle) (Read x) (λ i. cc), watch_ask (Read x))
+    kept (Write x v) idle d = (matches_ask P start b j c.events c.lawful c.matches p (who_is d) (runs idle d) (nothing idle) (Write x v) (λ i. cc), watch_ask (Write x v))
+    kept Commit idle d = (matches_ask P start b j c.events c.lawful c.matches p (who_is d) (runs idle d) (nothing idle) Commit (λ i. cc), watch_ask Commit)
+    kept Withdraw idle d = (matches_ask P start b j c.events c.lawful c.matches p (who_is d) (runs idle d) (nothing idle) Withdraw (λ i. cc), watch_ask Withdraw)
 
     -- whose transactions are whose
     has_begun : (q : Request K) → due q (process_at t p).live ≡ true → (u : ℕ) × (whose (entry p (placed q) ∷ j) p ≡ Some u)
@@ -560,7 +560,7 @@ module _ {K : Type 0} (e : K) (number : ℕ → ℕ) (contents : List K) (n : �
       }
 
   unheld_by : {q : ℕ} {w : K} → nobody ≡ by q w → ⊥
-  unheld_by h = let z : ◌≡◌ {A = ℕ} 0 1 = cc in omega arith
+  unheld_by h = cc
 
   fresh_matches : Matches opening number [] []
   fresh_matches =

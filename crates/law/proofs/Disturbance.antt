@@ -158,7 +158,7 @@ module _ {K : Type 0} where
         record {
           keeps = λ q y w h.
               elim (put_is held x nobody y (by q w) h) [
-                | inl d ↦ absurd (let k = d.1 in let z : ◌≡◌ {A = ℕ} 0 1 = cc in omega arith)
+                | inl d ↦ absurd (let k = d.1 in cc)
                 | inr d ↦ (let k = c.keeps q y w d.1 in (k.0, ss (current q) y d.0 ∙ k.1, fs (current q) y d.0 ∙ k.2))
               ];
           unfreed = λ q o a y. others q o a y ∙ c.unfreed q o a y;

@@ -351,7 +351,7 @@ module _ {K : Type 0} where
 
   -- a commit in hand after a step was in hand before it
   still_commit : (j : Trace K) (w : Option ℕ) (r : Request K) (n : ℕ) (f : Option Found) (a : Option (Answer K)) (m : ℕ) (g : Option Found) → desk_on j w (asked r n f) a ≡ asked Commit m g → r ≡ Commit
-  still_commit j w r n f (Some a) m g e = absurd (let z : ◌≡◌ {A = ℕ} 0 1 = cc in omega arith)
+  still_commit j w r n f (Some a) m g e = cc
   still_commit j w r n f None m g e = cc
 
   -- the two parts of a lawful block
@@ -463,13 +463,13 @@ module _ {K : Type 0} where
         given_up e = differ aborting out tt (sym (put_same (state start b es).phase p aborting p refl) ∙ e)
 
         no_commit : ◌≡◌ {A = Request K} Withdraw Commit → Known (certified_at j ((history es).current p))
-        no_commit e = absurd (let y : ◌≡◌ {A = ℕ} 0 1 = cc in omega arith)
+        no_commit e = cc
 
         here : Leaves p fs (fail p withdrawn ∷ es) → (u x : ℕ) (g : Option Found) → ((state start b (fs ++ fail p withdrawn ∷ es)).phase u ≡ out → ⊥) → desk (entry p (made z) ∷ j) u ≡ asked Commit x g → (p ≡ u) ⊎ (p ≡ u → ⊥)
             → ((state start b (fs ++ fail p withdrawn ∷ es)).phase u ≡ running) ⊎ Known (certified_at (entry p (made z) ∷ j) ((history (fs ++ fail p withdrawn ∷ es)).current u))
         here l u x g o e (inl d) =
             let e' : desk_on j (whose j p) (asked Withdraw n f) z.answer ≡ asked Commit x g = sym (desk_is z (asked Withdraw n f) q) ∙ ap (desk (entry p (made z) ∷ j)) d ∙ e in
-            absurd (let w = still_commit j (whose j p) Withdraw n f z.answer x g e' in let y : ◌≡◌ {A = ℕ} 0 1 = cc in omega arith)
+            absurd (let w = still_commit j (whose j p) Withdraw n f z.answer x g e' in cc)
         here l u x g o e (inr d) =
             let still = phases_other P start b p u d (fail p withdrawn ∷ es) fs l.within ∙ put_other (state start b es).phase p aborting u d in
             elim (certified_others z u x g d (λ h. o (still ∙ h)) e) [

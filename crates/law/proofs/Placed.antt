@@ -83,7 +83,7 @@ module _ {K : Type 0} where
           (ap (λ (rs : List (Request K)). r ∷ rs) before ∙ ap (λ (rs : List (Request K)). rs ++ started ((commits_of es).operations ((history es).current p))) (sym next)))
         where
           no_hand : HandAs start (history es).maker (history es).seals (commits_of es).operations (asked r 0 None) ((state start b es).hand p) ((history es).fetched p)
-          no_hand x k v g = absurd (let l = (c.base.standing p in_run).in_hand run x k v g in let i : free ≡ asked (Read x) l.0.0 _ = sym idle ∙ l.0.1 in let z : ◌≡◌ {A = ℕ} 0 1 = cc in omega arith)
+          no_hand x k v g = absurd (let l = (c.base.standing p in_run).in_hand run x k v g in let i : free ≡ asked (Read x) l.0.0 _ = sym idle ∙ l.0.1 in cc)
 
           before : requests j ((history es).current p) ≡ started ((commits_of es).operations ((history es).current p))
           before =
@@ -208,7 +208,7 @@ module _ {K : Type 0} where
             certs = c.certs;
             certified = λ q n f o e.
                 elim (cases_eq p q) [
-                  | inl d ↦ absurd (let k : asked Begin 0 None ≡ asked Commit n f = desk_new Begin ∙ ap (desk l') d ∙ e in let z : ◌≡◌ {A = ℕ} 0 1 = cc in omega arith)
+                  | inl d ↦ absurd (let k : asked Begin 0 None ≡ asked Commit n f = desk_new Begin ∙ ap (desk l') d ∙ e in cc)
                   | inr d ↦
                       elim (c.certified q n f (λ k. o (put_back q d ∙ k)) (sym (desk_other j p q (placed Begin) d) ∙ e)) [
                         | inl k ↦ inl (put_back q d ∙ k)

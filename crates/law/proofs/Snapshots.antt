@@ -22,7 +22,7 @@ use Rattle.law.proofs.Writers.{writers}
 use Rattle.law.proofs.Matches.{Matches}
 
 opening_by : {t : ℕ} → opening ≡ by t → ⊥
-opening_by e = let z : ◌≡◌ {A = ℕ} 0 1 = cc in omega arith
+opening_by e = cc
 
 -- a version with a maker is none of the opening's
 named : (maker : ℕ → ℕ) (i t : ℕ) → by t ≡ name maker i → (0 < i) × (maker i ≡ t)

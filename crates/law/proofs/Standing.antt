@@ -146,7 +146,7 @@ module _ {K : Type 0} where
         record {
           owes = λ q y v u e h.
               elim (put_is held x nobody y (by q v) h) [
-                | inl d ↦ absurd (let k = d.1 in let z : ◌≡◌ {A = ℕ} 0 1 = cc in omega arith)
+                | inl d ↦ absurd (let k = d.1 in cc)
                 | inr d ↦ c.owes q y v u e d.1
               ];
         }

@@ -23,13 +23,13 @@ either_way Q true x y f g = f refl
 either_way Q false x y f g = g refl
 
 pub none_some : {A : Type 0} {a : A} → None ≡ Some a → ⊥
-none_some e = let z : ◌≡◌ {A = ℕ} 0 1 = cc in omega arith
+none_some e = cc
 
 pub some_same : {A : Type 0} {a b : A} → Some a ≡ Some b → a ≡ b
 some_same e = cc
 
 pub true_false : true ≡ false → ⊥
-true_false e = let z : ◌≡◌ {A = ℕ} 0 1 = cc in omega arith
+true_false e = cc
 
 pub known_or : (o : Option ℕ) → (o ≡ None) ⊎ Known o
 known_or None = inl refl
@@ -211,12 +211,12 @@ module _ {K : Type 0} where
 
   -- before its first step a request has found nothing
   pub desk_new : (j : Trace K) (p : ℕ) (r : Request K) (n : ℕ) (f : Option Found) → desk j p ≡ asked r n f → n ≡ 0 → f ≡ None
-  desk_new [] p r n f h z = absurd (let q : ◌≡◌ {A = ℕ} 0 1 = cc in omega arith)
+  desk_new [] p r n f h z = cc
   desk_new (l ∷ j) p r n f h z = go (λ e. desk_new j p r n f e z) (eqb l.process p) h
     where
       stepped : (d : Desk K) (a : Option (Answer K)) → desk_on j (whose j p) d a ≡ asked r n f → f ≡ None
-      stepped d (Some a) e = absurd (let q : ◌≡◌ {A = ℕ} 0 1 = cc in omega arith)
-      stepped free None e = absurd (let q : ◌≡◌ {A = ℕ} 0 1 = cc in omega arith)
+      stepped d (Some a) e = cc
+      stepped free None e = cc
       stepped (asked q k g) None e = absurd (let i : suc k ≡ n = cc in omega arith)
 
       acted : (a : Act K) → desk_after j (whose j p) (desk j p) a ≡ asked r n f → f ≡ None

@@ -33,7 +33,7 @@ module _ {K B : Type 0} (e : K) (number : B → ℕ → ℕ) (moved : B → ℕ 
   step_live t b p s g v l z h false dead =
       let idle = (mine e (number b) t s p g v l false dead).1 in
       let no = subst (λ (f : Phase). (phase_step e (number b) t p f).reply ≡ Ok z) idle h in
-      absurd (let i : ◌≡◌ {A = ℕ} 0 1 = cc in omega arith)
+      cc
 
   -- a step that is made
   pub step_advances : (t : Tables K) (b : B) (p : ℕ) (s : State K) → Good e t → View e (number b) t s → (z : Stepped K) → (step_call e (number b) t p).reply ≡ Ok z
@@ -42,7 +42,7 @@ module _ {K B : Type 0} (e : K) (number : B → ℕ → ℕ) (moved : B → ℕ 
     where
       go : (o : Option Refusal) → refused e t p ≡ o → (step_unless o e (number b) t p).reply ≡ Ok z
           → Advance e (length t.processes) (number (bank_unless o number moved t b p)) t (step_unless o e (number b) t p).tables s p z
-      go (Some q) n h = absurd (let i : ◌≡◌ {A = ℕ} 0 1 = cc in omega arith)
+      go (Some q) n h = cc
       go None n h = step_live t b p s g v (within e t p n) z h (process_at t p).live refl
 
   -- a step that is refused changes nothing
@@ -51,13 +51,13 @@ module _ {K B : Type 0} (e : K) (number : B → ℕ → ℕ) (moved : B → ℕ 
     where
       in_phase : (f : Phase) → (phase_step e (number b) t p f).reply ≡ Err q → ((phase_step e (number b) t p f).tables ≡ t) × (phase_bank number moved t b p f ≡ b)
       in_phase Idle h = (refl, refl)
-      in_phase (Beginning next least) h = absurd (let z : ◌≡◌ {A = ℕ} 0 1 = cc in omega arith)
-      in_phase (Reading x) h = absurd (let z : ◌≡◌ {A = ℕ} 0 1 = cc in omega arith)
-      in_phase (Writing x) h = absurd (let z : ◌≡◌ {A = ℕ} 0 1 = cc in omega arith)
-      in_phase (Extending x to next a) h = absurd (let z : ◌≡◌ {A = ℕ} 0 1 = cc in omega arith)
-      in_phase (Certifying next) h = absurd (let z : ◌≡◌ {A = ℕ} 0 1 = cc in omega arith)
-      in_phase (Storing next) h = absurd (let z : ◌≡◌ {A = ℕ} 0 1 = cc in omega arith)
-      in_phase (Freeing next x) h = absurd (let z : ◌≡◌ {A = ℕ} 0 1 = cc in omega arith)
+      in_phase (Beginning next least) h = cc
+      in_phase (Reading x) h = cc
+      in_phase (Writing x) h = cc
+      in_phase (Extending x to next a) h = cc
+      in_phase (Certifying next) h = cc
+      in_phase (Storing next) h = cc
+      in_phase (Freeing next x) h = cc
 
       go : (o : Option Refusal) → (step_unless o e (number b) t p).reply ≡ Err q → ((step_unless o e (number b) t p).tables ≡ t) × (bank_unless o number moved t b p ≡ b)
       go (Some r) h = (refl, refl)
@@ -106,13 +106,13 @@ placement e number t s p q l idle d f asks shown =
 -- a phase that is idle
 idle_of : (f : Phase) → is_idle f ≡ true → f ≡ Idle
 idle_of Idle h = refl
-idle_of (Beginning n least) h = absurd (let z : ◌≡◌ {A = ℕ} 0 1 = cc in omega arith)
-idle_of (Reading x) h = absurd (let z : ◌≡◌ {A = ℕ} 0 1 = cc in omega arith)
-idle_of (Writing x) h = absurd (let z : ◌≡◌ {A = ℕ} 0 1 = cc in omega arith)
-idle_of (Extending x to n a) h = absurd (let z : ◌≡◌ {A = ℕ} 0 1 = cc in omega arith)
-idle_of (Certifying n) h = absurd (let z : ◌≡◌ {A = ℕ} 0 1 = cc in omega arith)
-idle_of (Storing n) h = absurd (let z : ◌≡◌ {A = ℕ} 0 1 = cc in omega arith)
-idle_of (Freeing n x) h = absurd (let z : ◌≡◌ {A = ℕ} 0 1 = cc in omega arith)
+idle_of (Beginning n least) h = cc
+idle_of (Reading x) h = cc
+idle_of (Writing x) h = cc
+idle_of (Extending x to n a) h = cc
+idle_of (Certifying n) h = cc
+idle_of (Storing n) h = cc
+idle_of (Freeing n x) h = cc
 
 module _ {K : Type 0} (e : K) (number : ℕ → ℕ) (t : Tables K) (p : ℕ) where
   -- a placing, by its request
@@ -123,21 +123,21 @@ module _ {K : Type 0} (e : K) (number : ℕ → ℕ) (t : Tables K) (p : ℕ) wh
     where
       not_live : (k : Bool) → not k ≡ true → k ≡ false
       not_live false n = refl
-      not_live true n = absurd (let z : ◌≡◌ {A = ℕ} 0 1 = cc in omega arith)
+      not_live true n = cc
   placed_as s (ask.Read x) g v l idle d =
       placement e number t s p (ask.Read x) l idle d (frame_none t p) refl
-      (placed_shown e number t s p g v l t (ask.Read x) (frame_none t p) refl refl refl d idle (λ n. let z : ◌≡◌ {A = ℕ} 0 1 = cc in omega arith))
+      (placed_shown e number t s p g v l t (ask.Read x) (frame_none t p) refl refl refl d idle (λ n. cc))
   placed_as s (ask.Write x w) g v l idle d =
       let size = (sizes_facts t g.sizes).hands in
       let in_hand : hand_at e (with_hand t p w) p ≡ w = get_or-set_same t.hands p w e (omega arith) in
       placement e number t s p (ask.Write x w) l idle d (frame_hand t p w) (λ i. ask.Write x (sym in_hand i))
-      (placed_shown e number t s p g v l (with_hand t p w) (ask.Write x w) (frame_hand t p w) refl refl refl d idle (λ n. let z : ◌≡◌ {A = ℕ} 0 1 = cc in omega arith))
+      (placed_shown e number t s p g v l (with_hand t p w) (ask.Write x w) (frame_hand t p w) refl refl refl d idle (λ n. cc))
   placed_as s ask.Commit g v l idle d =
       placement e number t s p ask.Commit l idle d (frame_none t p) refl
-      (placed_shown e number t s p g v l t ask.Commit (frame_none t p) refl refl refl d idle (λ n. let z : ◌≡◌ {A = ℕ} 0 1 = cc in omega arith))
+      (placed_shown e number t s p g v l t ask.Commit (frame_none t p) refl refl refl d idle (λ n. cc))
   placed_as s ask.Withdraw g v l idle d =
       placement e number t s p ask.Withdraw l idle d (frame_none t p) refl
-      (placed_shown e number t s p g v l t ask.Withdraw (frame_none t p) refl refl refl d idle (λ n. let z : ◌≡◌ {A = ℕ} 0 1 = cc in omega arith))
+      (placed_shown e number t s p g v l t ask.Withdraw (frame_none t p) refl refl refl d idle (λ n. cc))
 
   -- a placing that is made
   pub place_advances : (s : State K) (q : Request K) → Good e t → View e number t s → (place_call e t p q).reply ≡ Ok tt → Placement e (length t.processes) number t (place_call e t p q).tables s p q
@@ -145,15 +145,15 @@ module _ {K : Type 0} (e : K) (number : ℕ → ℕ) (t : Tables K) (p : ℕ) wh
     where
       both : (x y : Option Refusal) → first_no x y ≡ None → (x ≡ None) × (y ≡ None)
       both None y h = (refl, h)
-      both (Some x) y h = absurd (let z : ◌≡◌ {A = ℕ} 0 1 = cc in omega arith)
+      both (Some x) y h = cc
 
       asked : (x y : Bool) (o : Option Refusal) → cond x (cond y o (Some refusal.Transaction)) (Some refusal.InHand) ≡ None → (x ≡ true) × (y ≡ true)
       asked true true o h = (refl, refl)
-      asked true false o h = absurd (let z : ◌≡◌ {A = ℕ} 0 1 = cc in omega arith)
-      asked false y o h = absurd (let z : ◌≡◌ {A = ℕ} 0 1 = cc in omega arith)
+      asked true false o h = cc
+      asked false y o h = cc
 
       go : (o : Option Refusal) → place_no e t p q ≡ o → (place_unless o t p q).reply ≡ Ok tt → Placement e (length t.processes) number t (place_unless o t p q).tables s p q
-      go (Some r) n h = absurd (let z : ◌≡◌ {A = ℕ} 0 1 = cc in omega arith)
+      go (Some r) n h = cc
       go None n h =
           let a = both (refused e t p) (request_no t p q) n in
           let c = asked (is_idle (process_at t p).phase) (due q (process_at t p).live) (object_no t p q) a.1 in
@@ -165,4 +165,4 @@ place_refused e t p q r = go (place_no e t p q)
   where
     go : (o : Option Refusal) → (place_unless o t p q).reply ≡ Err r → (place_unless o t p q).tables ≡ t
     go (Some x) h = refl
-    go None h = absurd (let z : ◌≡◌ {A = ℕ} 0 1 = cc in omega arith)
+    go None h = cc

@@ -1,5 +1,5 @@
 -- A call leaves the number of processes as it is.
-use Rattle.std.proofs.Common.{◌≡◌, ℕ, ◌+◌, ◌&&◌, eqb, ltb, length, set, Some, None, Option, refl}
+use Rattle.std.proofs.Common.{◌≡◌, ℕ, ◌+◌, ◌&&◌, eqb, ltb, length, set, Some, None, Ok, Err, Option, Result, refl}
 use Rattle.std.proofs.lemmas.Bool.{cond_both}
 use Rattle.std.proofs.lemmas.List.{length-set}
 use Rattle.tables.specs.Lookup.{value_of, place_of}
@@ -14,8 +14,6 @@ use Rattle.tables.specs.declared.refusal.Refusal.{Refusal}
 use Rattle.tables.specs.declared.reply.Conflict.{Conflict}
 use Rattle.tables.specs.declared.reply.Request.{Request}
 use Rattle.tables.specs.declared.reply.Request.TheVariants as ask
-use Rattle.engine.specs.declared.look.Look.{Look}
-use Rattle.engine.specs.declared.look.Look.TheVariants as look
 use Rattle.engine.specs.Commit.{seal_stamp, sealed_at}
 use Rattle.engine.specs.Ends.{stopped}
 use Rattle.engine.specs.Extend.{extended}
@@ -63,10 +61,9 @@ module _ {K : Type 0} (e : K) (t : Tables K) (p : ℕ) where
   passes (Storing next) o = refl
   passes (Freeing next x) o = refl
 
-  looks : (f : Phase) (l : Look K) → Same (after_look e t p f l)
-  looks f (look.Held x) = stops _
-  looks f (look.Changed x) = stops _
-  looks f (look.Passes o) = passes f o
+  looks : (f : Phase) (l : Result (Object K) Conflict) → Same (after_look e t p f l)
+  looks f (Err c) = stops c
+  looks f (Ok o) = passes f o
 
   fetches : (x : ℕ) (v : Option K) → Same (read_at_value e t p x v)
   fetches x (Some v) = one _

@@ -39,7 +39,7 @@ value_at (s ∷ ss) (suc i) d h l =
 
 -- an object that has a value is named in some place
 place_for : {V : Type 0} (rs : List (Slot V)) (x : ℕ) (u : V) (d : Slot V) → value_of rs x ≡ Some u → (i : ℕ) × (i < length rs) × ((get_or rs i d).object ≡ x)
-place_for [] x u d h = absurd (let z : ◌≡◌ {A = ℕ} 0 1 = cc in omega arith)
+place_for [] x u d h = cc
 place_for (s ∷ ss) x u d h =
     elim (cases_Bool (eqb s.object x)) [
       | inl a ↦ (0, omega arith, eqb-true s.object x a)
@@ -100,7 +100,7 @@ module _ {K : Type 0} (e : K) (number : ℕ → ℕ) (t : Tables K) (s : State K
   all_passed f seen a x u w h = go (value_of (read_set t p) x) refl (seen x)
     where
       go : (o : Option ℕ) → value_of (read_set t p) x ≡ o → SeenAs o (s.seen p x) → f x ≡ true
-      go None n b = absurd (let z : ◌≡◌ {A = ℕ} 0 1 = cc in omega arith)
+      go None n b = cc
       go (Some k) n b =
           let size = read_length in
           let c = place_for (read_set t p) x k (pair 0 0) n in

@@ -32,9 +32,9 @@ within e t p h =
     ]
   where
     outside : (a b c : Bool) → c ≡ false → cond a (cond c (cond b None (Some refusal.Record)) (Some refusal.Process)) (Some refusal.Sizes) ≡ None → ⊥
-    outside true b false q h = let z : ◌≡◌ {A = ℕ} 0 1 = cc in omega arith
-    outside true b true q h = let z : ◌≡◌ {A = ℕ} 0 1 = cc in omega arith
-    outside false b c q h = let z : ◌≡◌ {A = ℕ} 0 1 = cc in omega arith
+    outside true b false q h = cc
+    outside true b true q h = cc
+    outside false b c q h = cc
 
 -- on a good memory the first questions refuse only a process that is not there
 pub unrefused : {K : Type 0} (e : K) (t : Tables K) (p : ℕ) → Good e t → p < length t.processes → refused e t p ≡ None
@@ -69,20 +69,20 @@ access_yes t x fits h =
   where
     yes_fits : (b c : Bool) → c ≡ true → cond c (cond b None (Some refusal.Room)) (Some refusal.Object) ≡ None → b ≡ true
     yes_fits true c q h = refl
-    yes_fits false true q h = absurd (let z : ◌≡◌ {A = ℕ} 0 1 = cc in omega arith)
-    yes_fits false false q h = absurd (let z : ◌≡◌ {A = ℕ} 0 1 = cc in omega arith)
+    yes_fits false true q h = cc
+    yes_fits false false q h = cc
 
     no_object : (b c : Bool) → c ≡ false → cond c (cond b None (Some refusal.Room)) (Some refusal.Object) ≡ None → ⊥
-    no_object b true q h = let z : ◌≡◌ {A = ℕ} 0 1 = cc in omega arith
-    no_object b false q h = let z : ◌≡◌ {A = ℕ} 0 1 = cc in omega arith
+    no_object b true q h = cc
+    no_object b false q h = cc
 
 object_yes : {K : Type 0} (t : Tables K) (p : ℕ) (q : Request K) → request_no t p q ≡ None → object_no t p q ≡ None
 object_yes t p q h = inner (is_idle (process_at t p).phase) (due q (process_at t p).live) (object_no t p q) h
   where
     inner : (a b : Bool) (o : Option Refusal) → cond a (cond b o (Some refusal.Transaction)) (Some refusal.InHand) ≡ None → o ≡ None
     inner true true o h = h
-    inner true false o h = absurd (let z : ◌≡◌ {A = ℕ} 0 1 = cc in omega arith)
-    inner false b o h = absurd (let z : ◌≡◌ {A = ℕ} 0 1 = cc in omega arith)
+    inner true false o h = cc
+    inner false b o h = cc
 
 module _ {K : Type 0} (e : K) (t : Tables K) (p : ℕ) (g : Good e t) (l : p < length t.processes) where
   -- a request is placed
@@ -116,7 +116,7 @@ place_at e t p q None g h =
   where
     both : (a b : Option Refusal) → first_no a b ≡ None → (a ≡ None) × (b ≡ None)
     both None b h = (refl, h)
-    both (Some x) b h = absurd (let z : ◌≡◌ {A = ℕ} 0 1 = cc in omega arith)
+    both (Some x) b h = cc
 
 pub place_good : {K : Type 0} (e : K) (t : Tables K) (p : ℕ) (q : Request K) → Good e t → Good e (place_call e t p q).tables
 place_good e t p q g = place_at e t p q (place_no e t p q) g refl

@@ -57,7 +57,7 @@ module _ {K : Type 0} (e : K) (number : ℕ → ℕ) (t u : Tables K) (s z : Sta
       d (own_holder (object_at e t x).holder (v.holds q x w b) clear)
     where
       own_holder : (o : Option ℕ) → o ≡ Some q → foreign o p ≡ false → q ≡ p
-      own_holder None n k = absurd (let i : ◌≡◌ {A = ℕ} 0 1 = cc in omega arith)
+      own_holder None n k = cc
       own_holder (Some r) n k = let same : r ≡ q = cc in sym same ∙ eqb-true r p (not-false (eqb r p) k)
 
   covered_other : (q y : ℕ) (w : K) → (p ≡ q → ⊥) → (x ≡ y → ⊥) → z.phase q ≡ running → z.held y ≡ by q w → (z.stamp y ≤ z.clock q) ⊎ (z.stamp y ≤ z.need q)

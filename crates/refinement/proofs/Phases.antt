@@ -1,5 +1,5 @@
 -- Every step and every placing keeps a memory good.
-use Rattle.std.proofs.Common.{◌≡◌, ℕ, ◌+◌, ◌-◌, ◌^◌, ◌<◌, ◌≤◌, min, max, Bool, true, false, cond, ◌&&◌, ◌||◌, eqb, ltb, leb, ◌⊎◌, List, length, is_some, Some, None, Option, sym, refl, ap, ◌∙◌, subst, inl, inr, arith}
+use Rattle.std.proofs.Common.{◌≡◌, ℕ, ◌+◌, ◌-◌, ◌^◌, ◌<◌, ◌≤◌, min, max, Bool, true, false, cond, ◌&&◌, ◌||◌, eqb, ltb, leb, ◌⊎◌, List, length, Some, None, Option, Result, sym, refl, subst, inl, inr, arith}
 use Rattle.std.proofs.lemmas.Bool.{and_parts, and_from, leb-true, le-leb, ltb-true, eqb-false, cond_both}
 use Rattle.std.proofs.lemmas.Bool.Decides.{nat_tests}
 use Rattle.std.proofs.lemmas.List.{length-set}
@@ -12,8 +12,8 @@ use Rattle.tables.specs.declared.process.Access.TheVariants as access
 use Rattle.tables.specs.declared.process.Ending.{Ending}
 use Rattle.tables.specs.declared.process.Phase.{Phase}
 use Rattle.tables.specs.declared.process.Phase.TheVariants.{Idle, Beginning, Reading, Writing, Extending, Certifying, Storing, Freeing}
+use Rattle.tables.specs.declared.reply.Conflict.{Conflict}
 use Rattle.tables.specs.declared.reply.Conflict.TheVariants as conflict
-use Rattle.engine.specs.declared.look.Look.{Look}
 use Rattle.engine.specs.Outcome.{Outcome, advanced, completed}
 use Rattle.engine.specs.Look.{foreign, differs, judged, pair_looked}
 use Rattle.engine.specs.Ends.{unheld_object, released, free_step}
@@ -24,17 +24,18 @@ use Rattle.engine.specs.Extend.{extended}
 use Rattle.engine.specs.Commit.{seal_stamp, sealed, sealed_at, stored_object, stored, store_step}
 use Rattle.engine.specs.Looked.{passed, after_look}
 use Rattle.engine.specs.Sound.{object_ok, holder_ok, room}
-use Rattle.engine.proofs.Facts.{value_place}
+use Rattle.refinement.proofs.Sets.{no_value}
 use Rattle.refinement.proofs.Own.{EndingNamed, AccessFits, PhaseOwn, Own, Good}
 use Rattle.refinement.proofs.Changes.{sound_of, ok_at, stamp_ok, sets_stay, completes, advances, hands_good, object_good, ends, joined_good, holds, replaces, stops}
 use Rattle.engine.specs.Looked.{read_at_value, write_at_place}
 use Rattle.engine.specs.Step.{commit_step, phase_step}
 
 none_room : {V : Type 0} (xs : List (Slot V)) (n most x : ℕ) → room xs n most x ≡ true → value_of xs x ≡ None → n < most
-none_room xs n most x h q = let z : is_some (value_of xs x) ≡ false = ap is_some q in grind (arith, nat_tests)
+none_room xs n most x h q = ltb-true _ _ (simp q at h)
 
-second : (a b : Bool) → a ≡ false → (a || b) ≡ true → b ≡ true
-second a b f h = grind arith
+-- an access that is not current has read something
+not_current : (n : ℕ) (b : Bool) → (b || eqb n 0) ≡ false → 0 < n
+not_current n b q = grind (arith, nat_tests)
 
 module _ {K : Type 0} (e : K) (t : Tables K) (p : ℕ) (g : Good e t) (l : p < length t.processes) where
   own : Own t p
@@ -46,9 +47,9 @@ module _ {K : Type 0} (e : K) (t : Tables K) (p : ℕ) (g : Good e t) (l : p < l
   -- a step that looks at the object x, found as o
   looks : (f : Phase) (o : Object K) (x : ℕ) (seen : Option ℕ) → x < length t.objects → (process_at t p).steps + 1 + (process_at t p).writes ≤ 49 → Good e (passed e t p f o).tables → Good e (after_look e t p f (judged o p x seen)).tables
   looks f o x seen hx few h =
-      cond_both (foreign o.holder p) _ _ (λ (z : Look K). Good e (after_look e t p f z).tables)
+      cond_both (foreign o.holder p) _ _ (λ (z : Result (Object K) Conflict). Good e (after_look e t p f z).tables)
       (λ _. stops e t p g l (conflict.Held x) hx few)
-      (λ _. cond_both (differs seen o.stamp) _ _ (λ (z : Look K). Good e (after_look e t p f z).tables)
+      (λ _. cond_both (differs seen o.stamp) _ _ (λ (z : Result (Object K) Conflict). Good e (after_look e t p f z).tables)
       (λ _. stops e t p g l (conflict.Changed x) hx few)
       (λ _. h))
 
@@ -76,9 +77,6 @@ module _ {K : Type 0} (e : K) (t : Tables K) (p : ℕ) (g : Good e t) (l : p < l
       (λ _. joined_good e u p gu l x o.stamp (max (process_at t p).clock o.stamp) (value_of (read_set t p) x) refl hx st (omega arith) few)
       (λ q. let some : 0 < (process_at t p).reads = not_current (process_at t p).reads (leb o.stamp (process_at t p).clock) q in
       advances e u p gu l (Extending x o.stamp 0 access.Read) (hx, st, some, free, omega arith))
-    where
-      not_current : (n : ℕ) (b : Bool) → (b || eqb n 0) ≡ false → 0 < n
-      not_current n b q = grind (arith, nat_tests)
 
   reads_good : (x : ℕ) (v : Option K) → value_of (write_set t p) x ≡ v → (process_at t p).phase ≡ Reading x → Good e (read_at_value e t p x v).tables
   reads_good x (Some v) w q =
@@ -88,7 +86,7 @@ module _ {K : Type 0} (e : K) (t : Tables K) (p : ℕ) (g : Good e t) (l : p < l
       let o = object_at e t x in
       let zero = h.2 in
       let wc = own.write_count in
-      let free = second (is_some (value_of (write_set t p) x)) (room (read_set t p) (process_at t p).reads 32 x) (ap is_some w) h.1 in
+      let free = simp w at h.1 in
       looks (Reading x) o x (value_of (read_set t p) x) h.0 (omega arith)
       (admits x o h.0 (ok_at e t.objects (length t.processes) x g.objects) (none_room (read_set t p) (process_at t p).reads 32 x free) zero free)
 
@@ -103,16 +101,6 @@ module _ {K : Type 0} (e : K) (t : Tables K) (p : ℕ) (g : Good e t) (l : p < l
       (λ q. let some : 0 < (process_at t p).reads = not_current (process_at t p).reads (leb o.stamp (process_at t p).clock) q in
       holds e t p g l x o (advanced (write_joined (process_at t p)) (Extending x o.stamp 0 access.Write)) hx ho few none refl refl own.clock
       (hx, st, some, tt, omega arith))
-    where
-      not_current : (n : ℕ) (b : Bool) → (b || eqb n 0) ≡ false → 0 < n
-      not_current n b q = grind (arith, nat_tests)
-
-  no_place : (x : ℕ) → place_of (write_set t p) x 0 ≡ None → is_some (value_of (write_set t p) x) ≡ false
-  no_place x q = value_place (write_set t p) x 0 ∙ ap is_some q
-
-  none_of : {V : Type 0} (o : Option V) → is_some o ≡ false → o ≡ None
-  none_of None h = refl
-  none_of (Some v) h = absurd (let z : ◌≡◌ {A = ℕ} 0 1 = cc in omega arith)
 
   writes_good : (x : ℕ) (i : Option ℕ) → place_of (write_set t p) x 0 ≡ i → (process_at t p).phase ≡ Writing x → Good e (write_at_place e t p x i).tables
   writes_good x (Some i) w q = replaces e t p g l x i w
@@ -120,7 +108,7 @@ module _ {K : Type 0} (e : K) (t : Tables K) (p : ℕ) (g : Good e t) (l : p < l
       let h = at_phase (Writing x) q in
       let o = object_at e t x in
       let zero = h.2 in
-      let none = none_of (value_of (write_set t p) x) (no_place x w) in
+      let none = no_value (write_set t p) x w in
       let few = none_room (write_set t p) (process_at t p).writes 16 x h.1 none in
       looks (Writing x) o x None h.0 (omega arith)
       (holds_good x o h.0 (ok_at e t.objects (length t.processes) x g.objects) few none zero)

@@ -104,7 +104,7 @@ module _ {K : Type 0} (e : K) (number : ℕ → ℕ) (t : Tables K) (s : State K
 
     -- what was seen is the stamp that was found
     present : (u : ℕ) (o : Option ℕ) → o ≡ Some u → differs o (object_at e t x).stamp ≡ false → u ≡ (object_at e t x).stamp
-    present u None n d = absurd (let z : ◌≡◌ {A = ℕ} 0 1 = cc in omega arith)
+    present u None n d = cc
     present u (Some k) n d = let z : k ≡ u = cc in sym z ∙ eqb-true k (object_at e t x).stamp (not-false (eqb k (object_at e t x).stamp) d)
 
     -- x is in the read set already
@@ -162,8 +162,7 @@ module _ {K : Type 0} (e : K) (number : ℕ → ℕ) (t : Tables K) (s : State K
         unread : (y u : ℕ) (w : K) (n : ℕ) → n ≡ 0 → s.seen p y ≡ saw u w → ⊥
         unread y u w n z h =
             let b : s.seen p y ≡ unseen = empty_set (process_at t p).reads none_read (a.seen y) in
-            let c : ◌≡◌ {A = ℕ} 0 1 = cc in
-            omega arith
+            cc
           where
             empty_set : (m : ℕ) → m ≡ 0 → SeenAs (value_of (window t.reads (p * 32) m) y) (s.seen p y) → s.seen p y ≡ unseen
             empty_set m z k = subst (λ (i : ℕ). SeenAs (value_of (window t.reads (p * 32) i) y) (s.seen p y)) z k

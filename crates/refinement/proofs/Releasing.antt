@@ -1,5 +1,5 @@
 -- The steps that store or free an object, as blocks of events.
-use Rattle.std.proofs.Common.{◌≡◌, ℕ, zero, suc, ◌+◌, ◌*◌, ◌<◌, Bool, true, false, cond, not, List, [], ◌∷◌, length, get_or, drop, set, is_some, Some, None, Option, sym, refl, ap, ◌∙◌, subst, inl, inr, arith}
+use Rattle.std.proofs.Common.{◌≡◌, ℕ, zero, suc, ◌+◌, ◌*◌, ◌<◌, Bool, true, false, cond, not, List, [], ◌∷◌, length, get_or, drop, set, Some, None, Option, sym, refl, ap, ◌∙◌, subst, inl, inr, arith}
 use Rattle.std.proofs.lemmas.Bool.{cases_eq, and_parts, not-true, eq-eqb, ne_eqb}
 use Rattle.std.proofs.lemmas.List.{get_or-set_same, get_or-set_other, drop_more, drop_all}
 use Rattle.tables.specs.Lookup.{pair, value_of}
@@ -18,7 +18,7 @@ use Rattle.protocol.proofs.Updates.{put_same, put_other, put_is}
 use Rattle.protocol.proofs.Invariant.{differ}
 use Rattle.refinement.proofs.Frames.{Frame, frame_process, frame_object, frame_ended, frame_both}
 use Rattle.refinement.proofs.Own.{Good}
-use Rattle.refinement.proofs.Sets.{names, apart, among, value_first, value_among}
+use Rattle.refinement.proofs.Sets.{names, apart, among, value_first, value_among, none_of}
 use Rattle.refinement.proofs.Windows.{window, window_length}
 use Rattle.refinement.proofs.Changes.{sizes_facts, sound_of}
 use Rattle.refinement.proofs.Rows.{Row, row, row_others}
@@ -38,10 +38,6 @@ later_none [] i d h l = absurd (omega arith)
 later_none (s ∷ ss) zero d h l =
     let a = and_parts (not (among s.object (names ss))) (apart (names ss)) h in
     none_of (value_of ss s.object) (value_among ss s.object ∙ not-true (among s.object (names ss)) a.0)
-  where
-    none_of : {V : Type 0} (o : Option V) → is_some o ≡ false → o ≡ None
-    none_of None n = refl
-    none_of (Some k) n = absurd (let z : ◌≡◌ {A = ℕ} 0 1 = cc in omega arith)
 later_none (s ∷ ss) (suc i) d h l =
     let a = and_parts (not (among s.object (names ss))) (apart (names ss)) h in
     let e : suc i + 1 ≡ suc (i + 1) = omega arith in
@@ -128,7 +124,7 @@ module _ {K : Type 0} (e : K) (number : ℕ → ℕ) (t : Tables K) (s : State K
       ])
       stamp held
       (subst (λ (b : Option ℕ). HolderAs u the_object b nobody) (sym (ap (λ (b : Object K). b.holder) object_here ∙ unheld)) refl)
-      (λ w h. absurd (let k : value_of (drop (i + 1) (write_set t p)) the_object ≡ Some w = ap (λ (c : List (Slot K)). value_of c the_object) (sym pend) ∙ h in let a = gone_now in let b : ◌≡◌ {A = ℕ} 0 1 = cc in omega arith))
+      (λ w h. absurd (let k : value_of (drop (i + 1) (write_set t p)) the_object ≡ Some w = ap (λ (c : List (Slot K)). value_of c the_object) (sym pend) ∙ h in let a = gone_now in cc))
       bank others mine_row
       (λ y w run h. absurd (still run))
 
@@ -139,13 +135,12 @@ module _ {K : Type 0} (e : K) (number : ℕ → ℕ) (t : Tables K) (s : State K
   pub holds_no_more : i + 1 ≡ (process_at t p).writes → (y : ℕ) (w : K) → put s.held the_object nobody y ≡ by p w → ⊥
   holds_no_more last y w h =
       elim (put_is s.held the_object nobody y (by p w) h) [
-        | inl a ↦ (let b = a.1 in let z : ◌≡◌ {A = ℕ} 0 1 = cc in omega arith)
+        | inl a ↦ (let b = a.1 in cc)
         | inr a ↦
             (let b = holder_of t y (object_at e t y).holder (s.held y) p w (v.held y) a.1 in
             let c : value_of (drop (i + 1) (write_set t p)) y ≡ Some w = away y a.0 ∙ b.1 in
             let d : value_of (drop (i + 1) (write_set t p)) y ≡ None = ap (λ (k : List (Slot K)). value_of k y) (nothing_left last) in
-            let z : ◌≡◌ {A = ℕ} 0 1 = cc in
-            omega arith)
+            cc)
       ]
 
   -- p's record after the step, with the object changed to o

@@ -1,5 +1,5 @@
 -- The objects that a set's pairs name: below a bound, none twice; one pair more, and one pair's value replaced.
-use Rattle.std.proofs.Common.{◌≡◌, ℕ, suc, ◌+◌, ◌-◌, ◌^◌, ◌<◌, ◌≤◌, Bool, true, false, cond, not, ◌&&◌, ◌||◌, eqb, ltb, leb, List, [], ◌∷◌, ◌++◌, map, length, get_or, set, is_some, Some, sym, refl, ap, ◌∙◌, inl, inr, arith}
+use Rattle.std.proofs.Common.{◌≡◌, ℕ, suc, ◌+◌, ◌-◌, ◌^◌, ◌<◌, ◌≤◌, Bool, true, false, cond, not, ◌&&◌, ◌||◌, eqb, ltb, leb, List, [], ◌∷◌, ◌++◌, map, length, get_or, set, is_some, Some, None, Option, sym, refl, ap, ◌∙◌, inl, inr, arith}
 use Rattle.std.proofs.lemmas.Bool.{cases_Bool, and_parts, and_from, ltb-true, lt-ltb, eqb-true, or_parts, or_from}
 use Rattle.std.proofs.lemmas.Bool.Decides.{nat_tests}
 use Rattle.std.proofs.lemmas.List.{map_push, map-set, set-get_or}
@@ -8,6 +8,7 @@ use Rattle.tables.specs.Tables.{blank_object}
 use Rattle.tables.specs.declared.map.Slot.{Slot}
 use Rattle.tables.specs.declared.memory.Object.{Object}
 use Rattle.engine.specs.Sound.{named_ok, object_ok, all_named, distinct, stamps_ok}
+use Rattle.engine.proofs.Facts.{value_place}
 
 abbrev pub names : {V : Type 0} → List (Slot V) → List ℕ
 names xs = map (λ (s : Slot _). s.object) xs
@@ -23,6 +24,14 @@ among x (y ∷ ys) = eqb y x || among x ys
 abbrev pub apart : List ℕ → Bool
 apart [] = true
 apart (x ∷ xs) = not (among x xs) && apart xs
+
+pub none_of : {V : Type 0} (o : Option V) → is_some o ≡ false → o ≡ None
+none_of None h = refl
+none_of (Some v) h = cc
+
+-- an object with no place has no value
+pub no_value : {V : Type 0} (xs : List (Slot V)) (x : ℕ) → place_of xs x 0 ≡ None → value_of xs x ≡ None
+no_value xs x h = none_of (value_of xs x) (value_place xs x 0 ∙ ap is_some h)
 
 -- each object of a table of objects has a stamp and a holder in range; n is the number of processes
 abbrev pub ObjectsOk : {K : Type 0} → K → List (Object K) → ℕ → Type 0
@@ -98,7 +107,7 @@ names_push xs s = map_push (λ (z : Slot _). z.object) xs s
 
 -- the place that a look-up gives
 pub place_found : {V : Type 0} (xs : List (Slot V)) (x n i : ℕ) → place_of xs x n ≡ Some i → (n ≤ i) × (i < n + length xs) × ((d : ℕ) → get_or (names xs) (i - n) d ≡ x)
-place_found [] x n i h = absurd (let z : ◌≡◌ {A = ℕ} 0 1 = cc in omega arith)
+place_found [] x n i h = cc
 place_found (s ∷ ss) x n i h =
     elim (cases_Bool (eqb s.object x)) [
       | inl e ↦

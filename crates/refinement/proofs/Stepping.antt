@@ -1,9 +1,10 @@
 -- Every step is a lawful block of events of the protocol, by its phase and its reply.
-use Rattle.std.proofs.Common.{◌≡◌, ℕ, ◌+◌, ◌*◌, ◌^◌, ◌<◌, ◌≤◌, min, max, Bool, true, false, cond, not, ◌&&◌, ◌||◌, eqb, ltb, leb, ◌⊎◌, List, [], ◌∷◌, length, is_some, Some, None, Ok, Option, sym, refl, ap, ◌∙◌, subst, inl, inr, arith}
+use Rattle.std.proofs.Common.{◌≡◌, ℕ, ◌+◌, ◌*◌, ◌^◌, ◌<◌, ◌≤◌, min, max, Bool, true, false, cond, ◌&&◌, ◌||◌, eqb, ltb, leb, ◌⊎◌, List, [], ◌∷◌, length, Some, None, Ok, Option, Result, sym, refl, ap, ◌∙◌, subst, inl, inr, arith}
 use Rattle.std.proofs.lemmas.Bool.{cases_Bool, eqb-true, eqb-false, and_parts, or_parts, eq-eqb, cond_both, leb-true, leb-false, ltb-true, ltb-false}
 use Rattle.tables.specs.Lookup.{pair, value_of, place_of}
 use Rattle.tables.specs.Tables.{Tables, process_at, object_at, hand_at, read_at, write_at, read_set, write_set, with_process, with_object, with_hand, with_read, with_write}
 use Rattle.tables.specs.declared.map.Slot.{Slot}
+use Rattle.tables.specs.declared.memory.Object.{Object}
 use Rattle.tables.specs.declared.process.Access.{Access}
 use Rattle.tables.specs.declared.process.Access.TheVariants as access
 use Rattle.tables.specs.declared.process.Ending.{Ending}
@@ -18,7 +19,6 @@ use Rattle.tables.specs.declared.reply.Effect.TheVariants.{Nothing, Took, Sealed
 use Rattle.tables.specs.declared.reply.Request.{Request}
 use Rattle.tables.specs.declared.reply.Request.TheVariants as ask
 use Rattle.tables.specs.declared.reply.Stepped.{Stepped}
-use Rattle.engine.specs.declared.look.Look.{Look}
 use Rattle.engine.specs.Outcome.{Outcome, outcome, answering, accepted, advanced, completed}
 use Rattle.engine.specs.Look.{foreign, differs, judged, pair_looked}
 use Rattle.engine.specs.Ends.{ending_answer, stopped, unheld_object, released, free_step}
@@ -29,7 +29,7 @@ use Rattle.engine.specs.Commit.{seal_stamp, sealed, sealed_at, sealed_bank, stor
 use Rattle.engine.specs.Looked.{passed, after_look, read_at_value, read_step, write_at_place, write_step}
 use Rattle.engine.specs.Step.{commit_step, commit_bank, phase_step, phase_bank}
 use Rattle.engine.specs.Ready.{PhaseFacts}
-use Rattle.engine.proofs.Facts.{value_place, phase_facts}
+use Rattle.engine.proofs.Facts.{phase_facts}
 use Rattle.protocol.specs.Protocol.{State, Why, next}
 use Rattle.protocol.specs.Protocol.Held.{nobody}
 use Rattle.protocol.specs.Protocol.Phase.{running, certifying, aborting, sealing}
@@ -39,6 +39,7 @@ use Rattle.protocol.proofs.Updates.{put_same}
 use Rattle.protocol.proofs.Invariant.{differ}
 use Rattle.refinement.proofs.Frames.{Frame, frame_both, frame_hand, frame_object, frame_read, frame_write}
 use Rattle.refinement.proofs.Own.{Good, PhaseOwn, phase_from}
+use Rattle.refinement.proofs.Sets.{no_value}
 use Rattle.refinement.proofs.Windows.{window, window_push}
 use Rattle.refinement.proofs.Changes.{sizes_facts, place_within}
 use Rattle.refinement.proofs.Rows.{row}
@@ -78,11 +79,11 @@ unstopped (Freeing next x) l = absurd l
 no_begin : {K : Type 0} (h : K) (f : Phase) (k : Request K) → Looking f → Asks h f k → k ≡ ask.Begin → ⊥
 no_begin h Idle k l a e = l
 no_begin h (Beginning next least) k l a e = l
-no_begin h (Reading x) k l a e = let z : ◌≡◌ {A = ℕ} 0 1 = cc in omega arith
-no_begin h (Writing x) k l a e = let z : ◌≡◌ {A = ℕ} 0 1 = cc in omega arith
-no_begin h (Extending x to next access.Read) k l a e = let z : ◌≡◌ {A = ℕ} 0 1 = cc in omega arith
-no_begin h (Extending x to next access.Write) k l a e = let z : ◌≡◌ {A = ℕ} 0 1 = cc in omega arith
-no_begin h (Certifying next) k l a e = let z : ◌≡◌ {A = ℕ} 0 1 = cc in omega arith
+no_begin h (Reading x) k l a e = cc
+no_begin h (Writing x) k l a e = cc
+no_begin h (Extending x to next access.Read) k l a e = cc
+no_begin h (Extending x to next access.Write) k l a e = cc
+no_begin h (Certifying next) k l a e = cc
 no_begin h (Storing next) k l a e = l
 no_begin h (Freeing next x) k l a e = l
 
@@ -114,25 +115,17 @@ module _ {K : Type 0} (e : K) (number : ℕ → ℕ) (t : Tables K) (s : State K
   why_held x b = go (object_at e t x).holder b (v.held x)
     where
       go : (o : Option ℕ) → foreign o p ≡ true → HolderAs t x o (s.held x) → Why s p (busy x)
-      go None n h = absurd (let z : ◌≡◌ {A = ℕ} 0 1 = cc in omega arith)
-      go (Some q) n h = (q, h.0, h.2, λ m. let z = eq-eqb q p m in let i : ◌≡◌ {A = ℕ} 0 1 = clash (eqb q p) z n in omega arith)
-        where
-          clash : (k : Bool) → k ≡ true → not k ≡ true → ◌≡◌ {A = ℕ} 0 1
-          clash true m k = cc
-          clash false m k = cc
+      go None n h = cc
+      go (Some q) n h = (q, h.0, h.2, λ m. let z = eq-eqb q p m in cc)
 
   -- x has another stamp than the one that p has seen
   why_changed : (x u : ℕ) → SeenAs (Some u) (s.seen p x) → differs (Some u) (object_at e t x).stamp ≡ true → Why s p (cause_of (conflict.Changed x))
   why_changed x u a b =
-      (u, a.0, a.1, λ m. let z = eq-eqb u (object_at e t x).stamp (m ∙ v.stamps x) in let i : ◌≡◌ {A = ℕ} 0 1 = clash (eqb u (object_at e t x).stamp) z b in omega arith)
-    where
-      clash : (k : Bool) → k ≡ true → not k ≡ true → ◌≡◌ {A = ℕ} 0 1
-      clash true m k = cc
-      clash false m k = cc
+      (u, a.0, a.1, λ m. let z = eq-eqb u (object_at e t x).stamp (m ∙ v.stamps x) in cc)
 
   -- the same, where p may have seen none
   why_seen : (x : ℕ) (o : Option ℕ) → SeenAs o (s.seen p x) → differs o (object_at e t x).stamp ≡ true → Why s p (cause_of (conflict.Changed x))
-  why_seen x None a b = absurd (let z : ◌≡◌ {A = ℕ} 0 1 = cc in omega arith)
+  why_seen x None a b = cc
   why_seen x (Some u) a b = why_changed x u a b
 
   -- a look at x that p may have seen, by what it finds
@@ -140,9 +133,9 @@ module _ {K : Type 0} (e : K) (number : ℕ → ℕ) (t : Tables K) (s : State K
       → (foreign (object_at e t x).holder p ≡ false → differs o (object_at e t x).stamp ≡ false → Here f (passed e t p f (object_at e t x)))
       → Here f (after_look e t p f (judged (object_at e t x) p x o))
   looks f x o new none runs changed ok =
-      cond_both (foreign (object_at e t x).holder p) _ _ (λ (k : Look K). Here f (after_look e t p f k))
+      cond_both (foreign (object_at e t x).holder p) _ _ (λ (k : Result (Object K) Conflict). Here f (after_look e t p f k))
       (λ b. stops f (conflict.Held x) new (why_held x b) runs none)
-      (λ b. cond_both (differs o (object_at e t x).stamp) _ _ (λ (k : Look K). Here f (after_look e t p f k))
+      (λ b. cond_both (differs o (object_at e t x).stamp) _ _ (λ (k : Result (Object K) Conflict). Here f (after_look e t p f k))
       (λ c. stops f (conflict.Changed x) new (changed c) runs none)
       (λ c. ok b c))
 
@@ -151,12 +144,8 @@ module _ {K : Type 0} (e : K) (number : ℕ → ℕ) (t : Tables K) (s : State K
   current_cases st ck n h =
       elim (cases_Bool (leb st ck)) [
         | inl b ↦ inl (leb-true st ck b)
-        | inr b ↦ inr (leb-false st ck b, eqb-true n 0 (second (leb st ck) (eqb n 0) b h))
+        | inr b ↦ inr (leb-false st ck b, eqb-true n 0 (simp b at h))
       ]
-    where
-      second : (x y : Bool) → x ≡ false → (x || y) ≡ true → y ≡ true
-      second true y q k = absurd (let z : ◌≡◌ {A = ℕ} 0 1 = cc in omega arith)
-      second false y q k = k
 
   -- a stamp that needs an extension
   later_is : (st ck n : ℕ) → (leb st ck || eqb n 0) ≡ false → ck < st
@@ -221,7 +210,7 @@ module _ {K : Type 0} (e : K) (number : ℕ → ℕ) (t : Tables K) (s : State K
       (frame_write t p i (pair x (hand_at e t p)) (place_within e t p g l x i h)) refl refl
       (rewrite_shown e number t s p g v l live x i q a h) (λ k b. rw b (Block.rewrites x _ old.0 _ (own_phase (Writing x) q).2 old.2))
   writes x None q hx h room =
-      looks (Writing x) x None tt (ap gone q) (inl a.phase) (λ c. absurd (let z : ◌≡◌ {A = ℕ} 0 1 = cc in omega arith))
+      looks (Writing x) x None tt (ap gone q) (inl a.phase) (λ c. cc)
       (λ clear fresh.
       cond_both (current (process_at t p) (object_at e t x).stamp) _ _ (Here (Writing x))
       (λ b. takes clear (current_cases (object_at e t x).stamp (process_at t p).clock (process_at t p).reads b))
@@ -235,12 +224,8 @@ module _ {K : Type 0} (e : K) (number : ℕ → ℕ) (t : Tables K) (s : State K
       zero : (process_at t p).steps ≡ 0
       zero = (own_phase (Writing x) q).2
 
-      none_of : {V : Type 0} (o : Option V) → is_some o ≡ false → o ≡ None
-      none_of None n = refl
-      none_of (Some k) n = absurd (let z : ◌≡◌ {A = ℕ} 0 1 = cc in omega arith)
-
       none : value_of (write_set t p) x ≡ None
-      none = none_of (value_of (write_set t p) x) (value_place (write_set t p) x 0 ∙ ap is_some h)
+      none = no_value (write_set t p) x h
 
       free : foreign (object_at e t x).holder p ≡ false → s.held x ≡ nobody
       free clear = held_nobody e number t s v p x clear (ap (λ (k : List (Slot K)). value_of k x) (pending_at e number t s p g v l (Writing x) q) ∙ none)
@@ -387,7 +372,7 @@ module _ {K B : Type 0} (e : K) (number : B → ℕ → ℕ) (moved : B → ℕ 
     where
       stamp_is : (c : Bool) → cond c (Some (1 + max (process_at t p).clock (number b p))) None ≡ Some st → 1 + max (process_at t p).clock (number b p) ≡ st
       stamp_is true k = cc
-      stamp_is false k = absurd (let z : ◌≡◌ {A = ℕ} 0 1 = cc in omega arith)
+      stamp_is false k = cc
   seals s i v q a last None h = stops e (number b) t s p g v l live (Certifying i) conflict.Spent tt a.phase (inr a.phase) (ap gone q)
 
   -- a step of a commit, once certification has begun
@@ -466,7 +451,7 @@ module _ {K B : Type 0} (e : K) (number : B → ℕ → ℕ) (moved : B → ℕ 
   -- the step of each phase
   pub phase_advances : (s : State K) (f : Phase) (z : Stepped K) → View e (number b) t s → (process_at t p).phase ≡ f → (phase_step e (number b) t p f).reply ≡ Ok z
       → Advance e (length t.processes) (number (phase_bank number moved t b p f)) t (phase_step e (number b) t p f).tables s p z
-  phase_advances s Idle z v q h = absurd (let i : ◌≡◌ {A = ℕ} 0 1 = cc in omega arith)
+  phase_advances s Idle z v q h = cc
   phase_advances s (Beginning n least) z v q h =
       replied_alone s (Beginning n least) (begin_step (number b) t p n least) z q (λ no run. no) h (begins s n least v q)
   phase_advances s (Reading x) z v q h =
@@ -482,7 +467,7 @@ module _ {K B : Type 0} (e : K) (number : B → ℕ → ℕ) (moved : B → ℕ 
   phase_advances s (Extending x to i access.Write) z v q h =
       let f = Extending x to i access.Write in
       replied_alone s f (after_look e t p f (pair_looked e t p i)) z q (λ no run. no) h
-      (extends e (number b) t s p g v l live x to i access.Write q (facts f q).0 (λ n m. absurd (let j : ◌≡◌ {A = ℕ} 0 1 = cc in omega arith)))
+      (extends e (number b) t s p g v l live x to i access.Write q (facts f q).0 (λ n m. cc))
   phase_advances s (Certifying i) z v q h =
       replied s (commit_bank number moved t b p i) (commit_step e (number b p) t p i) z h (commits_from s i v q (live_at e (number b) t s p g v l (Certifying i) live q))
   phase_advances s (Storing i) z v q h =

@@ -174,7 +174,7 @@ other_row e number larger t u s z p q g v f d same grows =
 
 -- who is on record as holder holds
 pub holder_of : {K : Type 0} (t : Tables K) (x : ℕ) (o : Option ℕ) (h : Held K) (q : ℕ) (v : K) → HolderAs t x o h → h ≡ by q v → (o ≡ Some q) × (value_of (pending_of t q) x ≡ Some v)
-holder_of t x None h q v a b = absurd (let z : ◌≡◌ {A = ℕ} 0 1 = cc in omega arith)
+holder_of t x None h q v a b = cc
 holder_of t x (Some w) h q v a b =
     let same : by w a.0 ≡ by q v = sym a.2 ∙ b in
     let eq : w ≡ q = cc in
@@ -189,7 +189,7 @@ module _ {K : Type 0} (e : K) (number : ℕ → ℕ) (t : Tables K) (s : State K
       own_holder (object_at e t x).holder a.0 h
     where
       own_holder : (o : Option ℕ) → o ≡ Some q → foreign o p ≡ false → q ≡ p
-      own_holder None n f = absurd (let z : ◌≡◌ {A = ℕ} 0 1 = cc in omega arith)
+      own_holder None n f = cc
       own_holder (Some r) n f = let same : r ≡ q = cc in sym same ∙ eqb-true r p (not-false (eqb r p) f)
 
   -- what p has seen is the present stamp
@@ -197,7 +197,7 @@ module _ {K : Type 0} (e : K) (number : ℕ → ℕ) (t : Tables K) (s : State K
   same_to p x a d u w k = present (value_of (read_set t p) x) a d ∙ sym (v.stamps x)
     where
       present : (o : Option ℕ) → SeenAs o (s.seen p x) → differs o (object_at e t x).stamp ≡ false → u ≡ (object_at e t x).stamp
-      present None a d = absurd (let z : ◌≡◌ {A = ℕ} 0 1 = cc in omega arith)
+      present None a d = cc
       present (Some b) a d =
           let same : saw b a.0 ≡ saw u w = sym a.1 ∙ k in
           let eq : b ≡ u = cc in
@@ -208,7 +208,7 @@ module _ {K : Type 0} (e : K) (number : ℕ → ℕ) (t : Tables K) (s : State K
   held_mine p x w h = go (object_at e t x).holder (v.holds p x w h) (v.held x)
     where
       go : (o : Option ℕ) → o ≡ Some p → HolderAs t x o (s.held x) → s.held x ≡ by p w
-      go None n a = absurd (let z : ◌≡◌ {A = ℕ} 0 1 = cc in omega arith)
+      go None n a = cc
       go (Some r) n a =
           let same : r ≡ p = cc in
           let b : Some a.0 ≡ Some w = sym (ap (λ (k : ℕ). value_of (pending_of t k) x) (sym same) ∙ a.1) ∙ h in
@@ -224,4 +224,4 @@ module _ {K : Type 0} (e : K) (number : ℕ → ℕ) (t : Tables K) (s : State K
       go (Some r) f h =
           let same : r ≡ p = eqb-true r p (not-false (eqb r p) f) in
           let mine : value_of (pending_of t p) x ≡ Some h.0 = ap (λ (k : ℕ). value_of (pending_of t k) x) (sym same) ∙ h.1 in
-          absurd (let z : ◌≡◌ {A = ℕ} 0 1 = cc in omega arith)
+          cc

@@ -38,7 +38,7 @@ use Rattle.engine.proofs.Facts.{value_place}
 
 -- look-ups in a set whose pair for x has another value
 value_replaced : {V : Type 0} (ws : List (Slot V)) (x n i : ℕ) (w : V) → place_of ws x n ≡ Some i → (y : ℕ) → value_of (set ws (i - n) (pair x w)) y ≡ cond (eqb x y) (Some w) (value_of ws y)
-value_replaced [] x n i w h y = absurd (let z : ◌≡◌ {A = ℕ} 0 1 = cc in omega arith)
+value_replaced [] x n i w h y = cc
 value_replaced (s ∷ ss) x n i w h y =
     elim (cases_Bool (eqb s.object x)) [
       | inl a ↦
@@ -230,8 +230,7 @@ module _ {K : Type 0} (e : K) (number : ℕ → ℕ) (t : Tables K) (s : State K
         unread : (y k : ℕ) (w : K) → s.seen p y ≡ saw k w → ⊥
         unread y k w h =
             let b : s.seen p y ≡ unseen = empty_set (process_at t p).reads none_read (a.seen y) in
-            let c : ◌≡◌ {A = ℕ} 0 1 = cc in
-            omega arith
+            cc
           where
             empty_set : (m : ℕ) → m ≡ 0 → SeenAs (value_of (window t.reads (p * 32) m) y) (s.seen p y) → s.seen p y ≡ unseen
             empty_set m z i = subst (λ (j : ℕ). SeenAs (value_of (window t.reads (p * 32) j) y) (s.seen p y)) z i
@@ -262,7 +261,7 @@ module _ {K : Type 0} (e : K) (number : ℕ → ℕ) (t : Tables K) (s : State K
     where
       some_of : (o : Option K) → is_some o ≡ true → (k : K) × (o ≡ Some k)
       some_of (Some k) h = (k, refl)
-      some_of None h = absurd (let z : ◌≡◌ {A = ℕ} 0 1 = cc in omega arith)
+      some_of None h = cc
 
   -- a write to an object that p holds: its pair is in place i
   pub rewrite_shown : (x i : ℕ) → (process_at t p).phase ≡ Writing x → Rests (process_at t p) (read_set t p) (row s p) → place_of (write_set t p) x 0 ≡ Some i

@@ -1,7 +1,6 @@
-use Rattle.std.proofs.Common.{◌≡◌, vec_items, vec_len}
-use Rattle.engine.specs.Ends.{wiped}
+use Rattle.std.proofs.Common.{◌≡◌, length, replicate, take}
 use Rattle.tables.specs.Lookup.{pair}
 use Rattle.engine.proofs.ends.wipe.Given as goal
 
-abbrev pub invariant-loop-i : goal.invariant-loop-i
-invariant-loop-i g l = (vec_len l.places ≡ vec_len l.initial.places) × (vec_items l.places ≡ wiped (vec_items l.initial.places) l.at l.i (pair 0 l.blank))
+abbrev pub invariant-loop-place : goal.invariant-loop-place
+invariant-loop-place g l = (length l.place-items ≡ length l.initial.place-items) × (take l.place-index l.place-items ≡ replicate l.place-index (pair 0 l.blank))

@@ -1,6 +1,9 @@
-use Rattle.std.proofs.Common.{◌≡◌, drop}
+use Rattle.std.proofs.Common.{◌≡◌, length}
 use Rattle.engine.specs.Sound.{distinct}
 use Rattle.engine.proofs.sound.all_apart.Given as goal
 
-abbrev pub invariant-loop-i : goal.invariant-loop-i
-invariant-loop-i g l = distinct (drop l.i l.slots) ≡ distinct l.slots
+abbrev pub invariant-loop-rest : goal.invariant-loop-rest
+invariant-loop-rest g l = distinct l.rest ≡ distinct l.slots
+
+abbrev pub decreases-loop-rest : goal.decreases-loop-rest
+decreases-loop-rest g l = length l.rest
