@@ -6,7 +6,8 @@ ghost use Rattle.banks.specs.Numbers.{ranged};
 #[derive(Clone, Copy)]
 pub struct SilentBank;
 
-// The common bank: one number for all 64 processes.
+// The common bank: one number for all 64 processes. (Not a row of one number, of a type that the own bank has with 64: process p
+// would then be place p modulo 1.)
 #[derive(Clone, Copy)]
 pub struct CommonBank {
     pub(crate) clock: u64,

@@ -13,7 +13,7 @@ use tables::{
 };
 
 // Zeroes and blanks the places of process p, in a table in which each process has WIDTH places.
-// (c) The method `fill` asks for a `clone` that cannot fail, which `Copy` does not say.
+// The method `fill` asks for a `clone` that cannot fail, which `Copy` does not say.
 fn wipe<V: Copy, const WIDTH: usize>(places: &mut Vec<Slot<V>>, p: usize, blank: V)
     requires { p * WIDTH + WIDTH ≤ vec_len places.old }
     ensures { places.new.items ≡ wiped places.old.items (p * WIDTH) WIDTH (pair 0 blank) }

@@ -15,7 +15,7 @@ use super::writes::{hold, rewrite};
 use tables::{Conflict, Kind, Memory, Object, Phase, Stepped};
 
 // The rest of a step after its look.
-// (a) A rule of the project: this is a `match` on the pair of the phase and the look's result.
+// A rule of the project: this is a `match` on the pair of the phase and the look's result.
 pub(crate) fn follow_look<K: Kind>(
     memory: &mut Memory<K>,
     p: usize,
@@ -48,7 +48,7 @@ pub(crate) fn follow_look<K: Kind>(
 }
 
 // The first step of a read of x.
-// (a) A rule of the project: the look-up in the map answers an Option, which this step and that of a write take apart.
+// A rule of the project: the look-up in the map answers an Option, which this step and that of a write take apart.
 pub(crate) fn read_step<K: Kind>(memory: &mut Memory<K>, p: usize, x: usize) -> Stepped<K>
     requires ready { Ready (tables_of memory.old) p }
     requires object { x < length (tables_of memory.old).objects }

@@ -6,7 +6,7 @@ ghost use Rattle.engine.specs.Ready.{Ready};
 use tables::{Kind, Map, Memory, Process, READ_PLACES, Slot, WRITE_PLACES};
 
 // Process p of a memory that has its sizes, with the counts, clock and steps of its record in range.
-// (d) No such struct over a `&mut`: a 65th step would break its fact, and each method would need two clauses for one.
+// No such struct over a `&mut`: a 65th step would break its fact, and each method would need two clauses for one.
 #[derive(Drop)]
 pub(crate) struct Owner<'a, K> {
     pub(crate) memory: &'a Memory<K>,

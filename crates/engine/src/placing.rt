@@ -57,7 +57,7 @@ impl<K: Kind> Owner<'_, K> {
 }
 
 // The phase that a request starts in.
-// (d) No `From`: an impl of it for two types of another crate is refused.
+// No `From`: an impl of it for two types of another crate is refused.
 fn phase_for<K: Kind>(request: Request<K>) -> Phase
     ensures { result ≡ first_phase request }
 {

@@ -51,7 +51,7 @@ fn commit_step<K: Kind, B: Bank>(
 }
 
 // The step of a phase.
-// (a) A rule of the project: this is a `match` on the phase.
+// A rule of the project: this is a `match` on the phase.
 fn phase_step<K: Kind, B: Bank>(
     memory: &mut Memory<K>,
     bank: &mut B,

@@ -32,9 +32,7 @@ mod refused;
 // Adds a block of these records under this number to the input of a run.
 fn add_block(input: &mut Vec<u8>, number: u32, entries: &[Entry]) -> anyhow::Result<()> {
     let mut block = [0u8; BLOCK_LEN];
-    if write_block(&mut block, number, entries).is_err() {
-        return Err(anyhow!("the records make no block"));
-    }
+    write_block(&mut block, number, entries).map_err(|_| anyhow!("the records make no block"))?;
     input.extend_from_slice(&block)?;
     Ok(())
 }

@@ -27,9 +27,10 @@ pub struct Object<K> {
     pub holder: Option<usize>,
 }
 
-// The tables. They are apart, and a set is a stretch of one with its count in the record, since the rules ask for common tables of
-// places and for a test of all sizes before each call. Process p has the read places 32 p to 32 p + 31, the write places 16 p to 16 p + 15, and the hand place p, which
-// holds the content that a read last took or that a write will set.
+// The tables. They are apart, and a set is a stretch of one with its count in the record, since the rules ask for common
+// tables of places and for a test of all sizes before each call. Process p has the read places 32 p to 32 p + 31, the
+// write places 16 p to 16 p + 15, and the hand place p, which holds the content that a read last took or that a write
+// will set.
 #[derive(Drop)]
 pub struct Memory<K> {
     pub objects: Vec<Object<K>>,

@@ -8,6 +8,7 @@ use std::alloc::AllocError;
 use std::error::Error;
 use std::fmt;
 
+// Not one generic type with the error of a fresh memory: `?` would not convert a refusal of another crate to it.
 #[derive(Clone, Copy, Debug, PartialEq, Eq)]
 pub enum BlockError {
     Refused { refusal: Refusal },

@@ -15,13 +15,11 @@ use tables::Request;
 fn content_number(content: &[u8]) -> u32
     ensures { result ≡ number_in content.now }
 {
-    match content {
-        [a, b, c, d] => u32::from_le_bytes([*a, *b, *c, *d]),
-        _ => 0,
-    }
+    <[u8; 4]>::try_from(content).map_or(0, u32::from_le_bytes)
 }
 
-// The call that a record asks for. What its letter does not use is not looked at.
+// The call that a record asks for. What its letter does not use is not looked at. No `From`: an impl of it for two types of
+// other crates is refused.
 pub fn call_for(turn: Record<'_>) -> Call<u32>
     ensures { result ≡ call_of (said turn.entry) }
 {
