@@ -8,6 +8,15 @@ use tables::{Answer, Conflict, Memory, Request};
 // The most steps that a request of these runs takes.
 const MOST_STEPS: usize = 8;
 
+// A purse in debt, with bicycle 17 out since minute 905.
+const DEBT: Dock = Dock::Purse {
+    balance: -250,
+    hire: Some(Hire {
+        bicycle: 17,
+        start: 905,
+    }),
+};
+
 // Places a request of a process and makes its steps up to the answer.
 fn finish(
     memory: &mut Memory<Dock>,
@@ -40,17 +49,9 @@ fn purse_and_bay(rt: HostRuntime) -> Result<(), Fail> {
     let Some(mut bank) = CommonBank::at(LARGEST - 1) else {
         return Err(Fail::new("no such bank"));
     };
-    // The purse in debt, with bicycle 17 out since minute 905.
-    let debt = Dock::Purse {
-        balance: -250,
-        hire: Some(Hire {
-            bicycle: 17,
-            start: 905,
-        }),
-    };
     let pay = Request::Write {
         object: 2,
-        content: debt,
+        content: DEBT,
     };
     let empty = Request::Write {
         object: 1,
@@ -60,7 +61,7 @@ fn purse_and_bay(rt: HostRuntime) -> Result<(), Fail> {
     let begun = Answer::Begun { steps: 2 };
     let written = Answer::Written { steps: 1 };
     let in_debt = Answer::Read {
-        content: debt,
+        content: DEBT,
         steps: 1,
     };
 
