@@ -18,7 +18,7 @@ pub enum Refusal {
 }
 
 impl Refusal {
-    // The number of the question.
+    // The number of the question. Calls and blocks have their own questions, so each of the two enums is cast by itself.
     pub fn number(self) -> u8
         ensures { result ≡ refusal_number self }
     {

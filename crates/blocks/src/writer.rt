@@ -9,7 +9,7 @@ use super::layout::{BLOCK_LEN, BODY_LEN, HEAD_LEN, NUMBER_AT, PLACE_LEN, PLACES}
 use super::letter::Letter;
 use super::refusal::Refusal;
 
-// A record to be written. The letter is a plain byte, which may be an unknown one.
+// A record to be written. The letter is a plain byte and no `Letter`, since the rules ask the writer about unknown ones too.
 #[derive(Clone, Copy, Debug, PartialEq, Eq)]
 pub struct Entry {
     pub letter: u8,
@@ -87,6 +87,7 @@ fn lay_block(out: &mut [u8], number: u32, entries: &[Entry])
 }
 
 // Writes a block of these records under this number, or says which question refuses it and leaves the bytes as they were.
+// (Number and records are two arguments: a struct of both would be made at each call and taken apart in the body.)
 pub fn write_block(out: &mut [u8], number: u32, entries: &[Entry]) -> Result<(), Refusal>
     ensures { Wrote out.old number entries.now result out.new }
 {

@@ -44,7 +44,7 @@ pub(crate) fn end<K: Kind>(memory: &mut Memory<K>, p: usize) -> usize
     complete(r, clock)
 }
 
-// The answer that an ending gives.
+// The answer that an ending gives; no `From`, since it has the step count beside the ending.
 fn answer_to<K: Kind>(ending: Ending, steps: usize) -> Answer<K>
     ensures { result ≡ ending_answer ending steps }
 {

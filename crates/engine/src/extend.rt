@@ -35,7 +35,7 @@ fn finish_extension<K: Kind>(
     }
 }
 
-// Pair `next` has passed.
+// Pair `next` has passed. (No struct has x, `to` and the access: they go from the phase to the answer by these two functions.)
 pub(crate) fn pass_extension<K: Kind>(
     memory: &mut Memory<K>,
     p: usize,

@@ -75,7 +75,8 @@ fn phase_step<K: Kind, B: Bank>(
     }
 }
 
-// One step of process p: its effect and its answer, if it completes the request.
+// One step of process p: its effect and its answer, if it completes the request. The bank is apart from the memory: in a
+// struct that has both, it could not serve several memories.
 pub fn step<K: Kind, B: Bank>(
     memory: &mut Memory<K>,
     bank: &mut B,

@@ -23,7 +23,7 @@ pub enum Refusal {
 }
 
 impl Refusal {
-    // The number of the question.
+    // The number of the question. Blocks and calls have their own questions, so each of the two enums is cast by itself.
     pub fn number(self) -> u8
         ensures { result ≡ refusal_number self }
     {

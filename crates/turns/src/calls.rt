@@ -18,8 +18,8 @@ fn content_number(content: &[u8]) -> u32
     <[u8; 4]>::try_from(content).map_or(0, u32::from_le_bytes)
 }
 
-// The call that a record asks for. What its letter does not use is not looked at. No `From`: an impl of it for two types of
-// other crates is refused.
+// The call that a record asks for. What its letter does not use is not looked at. (No `From`: an impl of it for two types of
+// other crates is refused.)
 pub fn call_for(turn: Record<'_>) -> Call<u32>
     ensures { result ≡ call_of (said turn.entry) }
 {

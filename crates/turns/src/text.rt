@@ -6,7 +6,7 @@ use blocks::Refusal as BlockRefusal;
 use journal::{Call, Done, Line, Reply};
 use std::alloc::{AllocError, Global};
 
-// A refused block: its place among the blocks, and the number of the question.
+// A refused block: its place among the blocks, and the number of the question; the text of neither alone, so no `Display`.
 pub fn block_text(heap: Global, place: u32, refusal: BlockRefusal) -> Result<String, AllocError>
     ensures { IfOk result (λ s. string_bytes s ≡ refused_block_text place refusal) }
 {

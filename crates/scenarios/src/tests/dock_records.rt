@@ -46,6 +46,7 @@ fn purse_and_bay(rt: HostRuntime) -> Result<(), Fail> {
         },
     ];
     let mut memory = Memory::fresh(rt.alloc(), &contents, 2)?;
+    // No `ok_or`: a `Fail` that is not returned could not be dropped.
     let Some(mut bank) = CommonBank::at(LARGEST - 1) else {
         return Err(Fail::new("no such bank"));
     };
