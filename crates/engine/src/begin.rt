@@ -5,8 +5,8 @@ ghost use Rattle.engine.specs.Ready.{Ready};
 ghost use Rattle.engine.specs.Outcome.{outcome};
 ghost use Rattle.engine.specs.Begin.{begin_step};
 
-use super::outcome::{answering, going};
 use super::record::{complete, go_on};
+use super::reply::{answering, going};
 use banks::Bank;
 use tables::{Answer, Effect, Kind, Memory, Phase, Stepped};
 
@@ -26,7 +26,8 @@ pub(crate) fn begin_step<K: Kind, B: Bank>(
     let count = memory.processes.len();
     let r = &mut memory.processes[p];
     if next + 1 == count {
-        let steps = complete(r, low);
+        r.clock = low;
+        let steps = complete(r);
         return answering(Effect::Nothing, Answer::Begun { steps });
     }
     go_on(

@@ -6,8 +6,8 @@ ghost use Rattle.engine.specs.Outcome.{outcome};
 ghost use Rattle.engine.specs.Commit.{committed, certified, seal_stamp, sealed_at, sealed_bank, store_step};
 
 use super::ends::{end, stop};
-use super::outcome::{answering, going};
 use super::record::go_on;
+use super::reply::{answering, going};
 use banks::{Bank, LARGEST};
 use tables::{Answer, Conflict, Effect, Kind, Memory, Object, Phase, Stepped, WRITE_PLACES};
 

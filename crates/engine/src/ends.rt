@@ -6,14 +6,14 @@ ghost use Rattle.engine.specs.Ready.{Ready};
 ghost use Rattle.engine.specs.Outcome.{outcome};
 ghost use Rattle.engine.specs.Ends.{wiped, ended, ending_answer, given_up, stopped, released, freed, free_step};
 
-use super::outcome::{answering, going};
 use super::record::{complete, go_on};
+use super::reply::{answering, going};
 use tables::{
     Answer, Conflict, Effect, Ending, Kind, Memory, Phase, READ_PLACES, Slot, Stepped, WRITE_PLACES,
 };
 
 // Zeroes and blanks the places of process p, in a table in which each process has WIDTH places.
-// The method `fill` asks for a `clone` that cannot fail, which `Copy` does not say.
+// (Tried: `fill` asks for a `clone` that cannot fail, which `Copy` does not say, and of `fill_with` the goal stays open.)
 fn wipe<V: Copy, const WIDTH: usize>(places: &mut Vec<Slot<V>>, p: usize, blank: V)
     requires { p * WIDTH + WIDTH ≤ vec_len places.old }
     ensures { places.new.items ≡ wiped places.old.items (p * WIDTH) WIDTH (pair 0 blank) }
@@ -40,8 +40,7 @@ pub(crate) fn end<K: Kind>(memory: &mut Memory<K>, p: usize) -> usize
     r.live = false;
     r.reads = 0;
     r.writes = 0;
-    let clock = r.clock;
-    complete(r, clock)
+    complete(r)
 }
 
 // The answer that an ending gives; no `From`, since it has the step count beside the ending.

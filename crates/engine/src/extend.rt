@@ -5,9 +5,9 @@ ghost use Rattle.engine.specs.Ready.{Ready, JoinsIn};
 ghost use Rattle.engine.specs.Outcome.{outcome};
 ghost use Rattle.engine.specs.Extend.{extended, extension_passed};
 
-use super::outcome::{answering, going};
 use super::reads::join_read;
 use super::record::{complete, go_on};
+use super::reply::{answering, going};
 use tables::{Access, Answer, Effect, Kind, Memory, Phase, Stepped};
 
 // The last pair has passed: the access to x is completed at the clock `to`.
@@ -29,7 +29,9 @@ fn finish_extension<K: Kind>(
             answering(Effect::Nothing, Answer::Read { content, steps })
         }
         Access::Write => {
-            let steps = complete(&mut memory.processes[p], to);
+            let r = &mut memory.processes[p];
+            r.clock = to;
+            let steps = complete(r);
             answering(Effect::Nothing, Answer::Written { steps })
         }
     }

@@ -43,7 +43,7 @@ pub(crate) fn follow_look<K: Kind>(
         (
             Phase::Idle | Phase::Beginning { .. } | Phase::Storing { .. } | Phase::Freeing { .. },
             Ok(_),
-        ) => unreachable(),
+        ) => unreachable!(),
     }
 }
 

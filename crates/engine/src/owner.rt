@@ -6,7 +6,9 @@ ghost use Rattle.engine.specs.Ready.{Ready};
 use tables::{Kind, Map, Memory, Process, READ_PLACES, Slot, WRITE_PLACES};
 
 // Process p of a memory that has its sizes, with the counts, clock and steps of its record in range.
-// No such struct over a `&mut`: a 65th step would break its fact, and each method would need two clauses for one.
+// (Tried: such a struct over a `&mut`, with the functions that change the memory as methods. After a step its fact cannot be
+// shown, since nothing bounds the next count of steps; without that bound each method owes two clauses, on the reference and
+// on p, and those that count a step a third, in place of the one that they have.)
 #[derive(Drop)]
 pub(crate) struct Owner<'a, K> {
     pub(crate) memory: &'a Memory<K>,

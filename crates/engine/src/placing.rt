@@ -1,8 +1,8 @@
 // The placing of a request: it alters the process's own record and hand place only.
 ghost use Rattle.std.specs.Prelude.{◌≡◌, ◌<◌, length};
 ghost use Rattle.std.specs.Result.{result_err};
-ghost use Rattle.tables.specs.Tables.{tables_of, process_at};
-ghost use Rattle.engine.specs.Place.{due as is_due, access_no, object_no, request_no, first_phase, handed, place_call};
+ghost use Rattle.tables.specs.Tables.{tables_of};
+ghost use Rattle.engine.specs.Place.{due, access_no, object_no, request_no, first_phase, handed, place_call};
 
 use super::owner::Owner;
 use super::questions::questions;
@@ -11,7 +11,7 @@ use tables::{Ending, Kind, Memory, Phase, Refusal, Request};
 
 // Is a transaction open, or for a begin none?
 fn due<K: Kind>(request: Request<K>, live: bool) -> bool
-    ensures { result ≡ is_due request live }
+    ensures { result ≡ due request live }
 {
     match request {
         Request::Begin => !live,
@@ -46,7 +46,7 @@ impl<K: Kind> Owner<'_, K> {
         ensures { result_err result ≡ request_no (tables_of self.now.memory.now) self.now.p request }
     {
         let r = self.record();
-        if !matches!(r.phase, Phase::Idle) {
+        if r.phase != Phase::Idle {
             return Err(Refusal::InHand);
         }
         if !due(request, r.live) {
@@ -57,7 +57,7 @@ impl<K: Kind> Owner<'_, K> {
 }
 
 // The phase that a request starts in.
-// No `From`: an impl of it for two types of another crate is refused.
+// No `From`: an impl of it for two types of another crate is refused, and theirs does not know the largest number of a bank.
 fn phase_for<K: Kind>(request: Request<K>) -> Phase
     ensures { result ≡ first_phase request }
 {

@@ -6,9 +6,9 @@ ghost use Rattle.engine.specs.Ready.{Ready};
 ghost use Rattle.engine.specs.Outcome.{outcome};
 ghost use Rattle.engine.specs.Reads.{current, joined, pending_read, admitted};
 
-use super::outcome::{answering, going};
 use super::owner::Owner;
 use super::record::{complete, go_on};
+use super::reply::{answering, going};
 use tables::{
     Access, Answer, Effect, Kind, Memory, Object, Phase, Process, READ_PLACES, Slot, Stepped, put,
 };
@@ -26,9 +26,7 @@ pub(crate) fn read_pending<K: Kind>(memory: &mut Memory<K>, p: usize, content: K
     ensures { outcome result (tables_of memory.new) ≡ pending_read (tables_of memory.old) p content }
 {
     memory.hands[p] = content;
-    let r = &mut memory.processes[p];
-    let clock = r.clock;
-    let steps = complete(r, clock);
+    let steps = complete(&mut memory.processes[p]);
     answering(Effect::Nothing, Answer::Read { content, steps })
 }
 
@@ -46,21 +44,19 @@ pub(crate) fn join_read<K: Kind>(
     ensures steps { result ≡ (process_at (tables_of memory.old) p).steps + 1 }
     ensures after { tables_of memory.new ≡ joined (tables_of memory.old) p x stamp clock (value_of (read_set (tables_of memory.old) p) x) }
 {
-    let count = memory.processes[p].reads;
-    match (Owner { memory, p }).reads().get(x) {
-        Some(_) => complete(&mut memory.processes[p], clock),
+    let found = Owner { memory, p }.reads().get(x);
+    let r = &mut memory.processes[p];
+    r.clock = clock;
+    match found {
+        Some(_) => complete(r),
         None => {
-            put(
-                &mut memory.reads,
-                p * READ_PLACES + count,
-                Slot {
-                    object: x,
-                    value: stamp,
-                },
-            );
-            let r = &mut memory.processes[p];
+            let pair = Slot {
+                object: x,
+                value: stamp,
+            };
+            put(&mut memory.reads, p * READ_PLACES + r.reads, pair);
             r.reads += 1;
-            complete(r, clock)
+            complete(r)
         }
     }
 }

@@ -4,7 +4,8 @@ ghost use Rattle.engine.specs.Outcome.{advanced, completed};
 
 use tables::{Phase, Process};
 
-// One step more is done, and the next is that of the given phase.
+// One step more is done, and the next is that of the given phase. (The steps that go on by this until the last pair do not share
+// a function: it would take what each does with its last pair as a closure.)
 pub(crate) fn go_on(r: &mut Process, phase: Phase)
     requires { r.old.steps ≤ 64 }
     ensures { r.new ≡ advanced r.old phase }
@@ -13,14 +14,13 @@ pub(crate) fn go_on(r: &mut Process, phase: Phase)
     r.phase = phase;
 }
 
-// The request is answered, with the clock as given. The result is the number of steps that the request took.
-pub(crate) fn complete(r: &mut Process, clock: u64) -> usize
+// The request is answered. The result is the number of steps that it took.
+pub(crate) fn complete(r: &mut Process) -> usize
     requires { r.old.steps ≤ 64 }
     ensures steps { result ≡ r.old.steps + 1 }
-    ensures record { r.new ≡ completed r.old clock }
+    ensures record { r.new ≡ completed r.old r.old.clock }
 {
     let steps = r.steps + 1;
-    r.clock = clock;
     r.steps = 0;
     r.phase = Phase::Idle;
     steps

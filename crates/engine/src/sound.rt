@@ -2,7 +2,7 @@
 // The tests look at the process's own record and sets, and at the objects that these name.
 ghost use Rattle.std.specs.Prelude.{◌≡◌, ◌+◌, ◌≤◌, length, nat_le};
 ghost use Rattle.tables.specs.Tables.{tables_of, process_at, sizes_ok};
-ghost use Rattle.engine.specs.Sound.{object_ok, named_ok, all_named, distinct as apart, stamps_ok, counts_ok, room, sets_ok, readable as can_read, writable as can_write, access_room, conflict_ok, ending_ok, steps_left, phase_ok};
+ghost use Rattle.engine.specs.Sound.{object_ok, named_ok, all_named, distinct, stamps_ok, counts_ok, room, sets_ok, readable, writable, access_room, conflict_ok, ending_ok, steps_left, phase_ok};
 
 use super::owner::Owner;
 use banks::LARGEST;
@@ -51,7 +51,7 @@ fn stamps_fit(slots: &[Slot<u64>]) -> bool
 
 // Is no object there twice?
 fn all_apart<V: Copy>(slots: &[Slot<V>]) -> bool
-    ensures { result ≡ apart slots.now }
+    ensures { result ≡ distinct slots.now }
 {
     let mut rest = slots;
     while let [first, after @ ..] = rest {
@@ -76,8 +76,9 @@ impl<K: Kind> Owner<'_, K> {
     fn is_named(&self, x: usize) -> bool
         ensures { result ≡ named_ok K.Kind.empty (tables_of self.now.memory.now).objects (length (tables_of self.now.memory.now).processes) x }
     {
-        let objects = self.memory.objects.as_slice();
-        x < objects.len() && object_fits(&objects[x], self.memory.processes.len())
+        let count = self.memory.processes.len();
+        let object = self.memory.objects.get(x);
+        object.is_some_and(|o| object_fits(o, count))
     }
 
     // Does each pair name such an object?
@@ -102,14 +103,14 @@ impl<K: Kind> Owner<'_, K> {
 
     // May the process read x: is x in a set of it, or has the read set a free place?
     pub(crate) fn readable(&self, x: usize) -> bool
-        ensures { result ≡ can_read (tables_of self.now.memory.now) self.now.p x }
+        ensures { result ≡ readable (tables_of self.now.memory.now) self.now.p x }
     {
         self.writes().get(x).is_some() || has_room(self.reads(), READ_PLACES, x)
     }
 
     // May the process write x: is x in the write set, or has that a free place?
     pub(crate) fn writable(&self, x: usize) -> bool
-        ensures { result ≡ can_write (tables_of self.now.memory.now) self.now.p x }
+        ensures { result ≡ writable (tables_of self.now.memory.now) self.now.p x }
     {
         has_room(self.writes(), WRITE_PLACES, x)
     }
@@ -152,16 +153,10 @@ impl<K: Kind> Owner<'_, K> {
         match r.phase {
             Phase::Idle => 0,
             Phase::Beginning { next, .. } => self.memory.processes.len().saturating_sub(next),
-            Phase::Reading { object } => if self.writes().get(object).is_some() {
-                1
-            } else {
-                1 + r.reads + r.writes
-            },
-            Phase::Writing { object } => if self.writes().get(object).is_some() {
-                1
-            } else {
-                2 + r.reads + r.writes
-            },
+            Phase::Reading { object } | Phase::Writing { object }
+                if self.writes().get(object).is_some() => { 1 }
+            Phase::Reading { .. } => 1 + r.reads + r.writes,
+            Phase::Writing { .. } => 2 + r.reads + r.writes,
             Phase::Extending { next, .. } => r.reads.saturating_sub(next) + r.writes,
             Phase::Certifying { next } => r.reads.saturating_sub(next) + 1 + r.writes,
             Phase::Storing { next } => r.writes.saturating_sub(next),

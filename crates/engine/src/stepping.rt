@@ -75,8 +75,8 @@ fn phase_step<K: Kind, B: Bank>(
     }
 }
 
-// One step of process p: its effect and its answer, if it completes the request. The bank is apart from the memory: in a
-// struct that has both, it could not serve several memories.
+// One step of process p: its effect and its answer, if it completes the request. (The memory and the bank are two arguments:
+// a struct that owns both would ask callers for a bank of each memory, and one of two `&mut` would be made for each call.)
 pub fn step<K: Kind, B: Bank>(
     memory: &mut Memory<K>,
     bank: &mut B,

@@ -5,9 +5,9 @@ ghost use Rattle.engine.specs.Ready.{Ready};
 ghost use Rattle.engine.specs.Outcome.{outcome};
 ghost use Rattle.engine.specs.Writes.{rewritten, held};
 
-use super::outcome::{answering, going};
 use super::reads::is_current;
 use super::record::{complete, go_on};
+use super::reply::{answering, going};
 use tables::{
     Access, Answer, Effect, Kind, Memory, Object, Phase, Slot, Stepped, WRITE_PLACES, put,
 };
@@ -24,9 +24,7 @@ pub(crate) fn rewrite<K: Kind>(memory: &mut Memory<K>, p: usize, x: usize, i: us
         p * WRITE_PLACES + i,
         Slot { object: x, value },
     );
-    let r = &mut memory.processes[p];
-    let clock = r.clock;
-    let steps = complete(r, clock);
+    let steps = complete(&mut memory.processes[p]);
     answering(Effect::Nothing, Answer::Written { steps })
 }
 
@@ -57,7 +55,8 @@ pub(crate) fn hold<K: Kind>(
     let r = &mut memory.processes[p];
     r.writes += 1;
     if is_current(&before, found.stamp) {
-        let steps = complete(r, before.clock.max(found.stamp));
+        r.clock = before.clock.max(found.stamp);
+        let steps = complete(r);
         return answering(effect, Answer::Written { steps });
     }
     go_on(

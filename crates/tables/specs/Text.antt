@@ -1,9 +1,10 @@
--- What is printed of a conflict, of an answer and of the error of a memory that was not made.
+-- What is printed of a conflict, of an answer, of a refusal and of the error of a memory that was not made.
 use Rattle.std.specs.Prelude.{ℕ, List, [], ◌++◌, Some, codes, decimal, Option}
 use Rattle.std.specs.Option.{option_map}
 use Rattle.tables.specs.Numbers.{refusal_number}
 use Rattle.tables.specs.declared.fresh_error.FreshError.{FreshError}
 use Rattle.tables.specs.declared.fresh_error.FreshError.TheVariants.{Refused, NoMemory}
+use Rattle.tables.specs.declared.refusal.Refusal.{Refusal}
 use Rattle.tables.specs.declared.reply.Answer.{Answer}
 use Rattle.tables.specs.declared.reply.Answer.TheVariants.{Begun, Read, Written, Committed, Aborted, Withdrawn}
 use Rattle.tables.specs.declared.reply.Conflict.{Conflict}
@@ -36,6 +37,10 @@ content_text of (Withdrawn steps) = Some []
 abbrev pub answer_output : {K : Type 0} → (K → Option (List ℕ)) → Answer K → Option (List ℕ)
 answer_output of a = option_map (λ text. answer_words (λ _. text) a) (content_text of a)
 
+-- a refusal: the number of its question
+abbrev pub refusal_words : Refusal → List ℕ
+refusal_words q = codes "refused " ++ decimal (refusal_number q)
+
 abbrev pub fresh_error_words : FreshError → List ℕ
-fresh_error_words (Refused q) = codes "no such memory: refused " ++ decimal (refusal_number q)
+fresh_error_words (Refused q) = codes "no such memory: " ++ refusal_words q
 fresh_error_words NoMemory = codes "no memory for the tables"

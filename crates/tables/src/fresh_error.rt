@@ -8,6 +8,7 @@ use std::alloc::AllocError;
 use std::error::Error;
 use std::fmt;
 
+// Not one generic type with the error of a block: `?` would not convert a refusal of another crate to it.
 #[derive(Clone, Copy, Debug, PartialEq, Eq)]
 pub enum FreshError {
     Refused(Refusal),
@@ -27,10 +28,7 @@ impl fmt::Display for FreshError {
 
     fn fmt<W: fmt::Write>(&self, f: &mut fmt::Formatter<W>) -> fmt::Result {
         match self {
-            FreshError::Refused(refusal) => {
-                let question = refusal.number();
-                write!(f, "no such memory: refused {question}")
-            }
+            FreshError::Refused(refusal) => write!(f, "no such memory: {refusal}"),
             FreshError::NoMemory => write!(f, "no memory for the tables"),
         }
     }

@@ -10,7 +10,7 @@ pub struct Slot<V> {
 }
 
 // The map whose pairs lie in the borrowed places.
-#[derive(Clone, Copy)]
+#[derive(Clone, Copy, Debug, PartialEq, Eq)]
 pub struct Map<'a, V> {
     pub slots: &'a [Slot<V>],
 }

@@ -47,7 +47,8 @@ pub fn numbers_fit(objects: usize, processes: usize) -> bool
     (1..=MOST_OBJECTS).contains(&objects) && (1..=MOST_PROCESSES).contains(&processes)
 }
 
-// A table of n equal elements: a loop, since `vec![x; n]` clones x, and nothing says that a kind's clone is its copy.
+// A table of n equal elements. (Tried: `vec![x; n]` clones x, and nothing says that a kind's clone is its copy; of a chain that
+// is collected, the check did not find that its items are n times x.)
 fn filled<T: Copy>(heap: Global, element: T, n: usize) -> Result<Vec<T>, AllocError>
     ensures { IfOk result (λ v. v.items ≡ replicate n element) }
 {

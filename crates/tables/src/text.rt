@@ -1,7 +1,8 @@
-// How a conflict and an answer are printed: a word, the values of the case, and of an answer its step count.
+// How a conflict, an answer and a refusal are printed: a word, the values of the case, and of an answer its step count.
 ghost use Rattle.std.specs.Prelude.{Some};
-ghost use Rattle.tables.specs.Text.{conflict_words, answer_output};
+ghost use Rattle.tables.specs.Text.{conflict_words, answer_output, refusal_words};
 
+use super::refusal::Refusal;
 use super::reply::{Answer, Conflict};
 use std::fmt;
 
@@ -29,5 +30,14 @@ impl<K: fmt::Display> fmt::Display for Answer<K> {
             Answer::Aborted { conflict, steps } => write!(f, "aborted {conflict} {steps}"),
             Answer::Withdrawn { steps } => write!(f, "withdrawn {steps}"),
         }
+    }
+}
+
+impl fmt::Display for Refusal {
+    ghost output = { λ q. Some (refusal_words q) };
+
+    fn fmt<W: fmt::Write>(&self, f: &mut fmt::Formatter<W>) -> fmt::Result {
+        let question = self.number();
+        write!(f, "refused {question}")
     }
 }
