@@ -6,10 +6,11 @@ ghost use Rattle.engine.specs.Outcome.{outcome};
 ghost use Rattle.engine.specs.Commit.{committed, certified, seal_stamp, sealed_at, sealed_bank, store_step};
 
 use super::ends::{end, stop};
+use super::owner::Owner;
 use super::record::go_on;
 use super::reply::{answering, going};
 use banks::{Bank, LARGEST};
-use tables::{Answer, Conflict, Effect, Kind, Memory, Object, Phase, Stepped, WRITE_PLACES};
+use tables::{Answer, Conflict, Effect, Kind, Memory, Object, Phase, Stepped};
 
 // Ends the transaction with the answer committed.
 pub(crate) fn finish_commit<K: Kind>(memory: &mut Memory<K>, p: usize, effect: Effect) -> Stepped<K>
@@ -77,7 +78,7 @@ pub(crate) fn store_step<K: Kind>(memory: &mut Memory<K>, p: usize, next: usize)
     ensures { outcome result (tables_of memory.new) ≡ store_step K.Kind.empty (tables_of memory.old) p next }
 {
     let r = memory.processes[p];
-    let pair = memory.writes[p * WRITE_PLACES + next];
+    let pair = Owner { memory, p }.writes().slots[next];
     memory.objects[pair.object] = Object {
         content: pair.value.copied(),
         stamp: r.clock,

@@ -6,6 +6,7 @@ ghost use Rattle.engine.specs.Ready.{Ready};
 ghost use Rattle.engine.specs.Outcome.{outcome};
 ghost use Rattle.engine.specs.Ends.{wiped, ended, ending_answer, given_up, stopped, released, freed, free_step};
 
+use super::owner::Owner;
 use super::record::{complete, go_on};
 use super::reply::{answering, going};
 use tables::{
@@ -126,6 +127,6 @@ pub(crate) fn free_step<K: Kind>(
     if memory.processes[p].writes == 0 {
         return give_up(memory, p, ending, Effect::Nothing);
     }
-    let x = memory.writes[p * WRITE_PLACES + next].object;
+    let x = Owner { memory, p }.writes().slots[next].object;
     free_object(memory, p, next, x, ending)
 }

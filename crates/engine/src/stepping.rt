@@ -19,7 +19,7 @@ use tables::{Effect, Kind, Memory, Phase, Refusal, Stepped};
 // A step that looks at pair `next` of the read set: the look and what follows it.
 fn pair_step<K: Kind>(memory: &mut Memory<K>, p: usize, phase: Phase, next: usize) -> Stepped<K>
     requires ready { Ready (tables_of memory.old) p }
-    requires within { next < 32 }
+    requires due { next < (process_at (tables_of memory.old) p).reads }
     requires looks { Looks (tables_of memory.old) p phase }
     requires named { (read_at (tables_of memory.old) p next).object < length (tables_of memory.old).objects }
     ensures { outcome result (tables_of memory.new) ≡ after_look K.Kind.empty (tables_of memory.old) p phase (pair_looked K.Kind.empty (tables_of memory.old) p next) }

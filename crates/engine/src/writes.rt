@@ -1,6 +1,7 @@
 // Writing: the content in hand replaces a pending one, or the process becomes the holder and the pair joins the write set.
 ghost use Rattle.std.specs.Prelude.{◌≡◌, ◌<◌, length};
-ghost use Rattle.tables.specs.Tables.{tables_of, process_at};
+ghost use Rattle.tables.specs.Lookup.{pair};
+ghost use Rattle.tables.specs.Tables.{tables_of, process_at, with_write, hand_at};
 ghost use Rattle.engine.specs.Ready.{Ready};
 ghost use Rattle.engine.specs.Outcome.{outcome};
 ghost use Rattle.engine.specs.Writes.{rewritten, held};
@@ -12,11 +13,11 @@ use tables::{
     Access, Answer, Effect, Kind, Memory, Object, Phase, Slot, Stepped, WRITE_PLACES, put,
 };
 
-// Replaces the pending content in place i, which is that of x.
-pub(crate) fn rewrite<K: Kind>(memory: &mut Memory<K>, p: usize, x: usize, i: usize) -> Stepped<K>
+// Puts the pair of x and the content in hand into place i of the write set.
+fn set_pending<K: Kind>(memory: &mut Memory<K>, p: usize, i: usize, x: usize)
     requires ready { Ready (tables_of memory.old) p }
     requires within { i < 16 }
-    ensures { outcome result (tables_of memory.new) ≡ rewritten K.Kind.empty (tables_of memory.old) p x i }
+    ensures { tables_of memory.new ≡ with_write (tables_of memory.old) p i (pair x (hand_at K.Kind.empty (tables_of memory.old) p)) }
 {
     let value = memory.hands[p];
     put(
@@ -24,6 +25,15 @@ pub(crate) fn rewrite<K: Kind>(memory: &mut Memory<K>, p: usize, x: usize, i: us
         p * WRITE_PLACES + i,
         Slot { object: x, value },
     );
+}
+
+// Replaces the pending content in place i, which is that of x.
+pub(crate) fn rewrite<K: Kind>(memory: &mut Memory<K>, p: usize, x: usize, i: usize) -> Stepped<K>
+    requires ready { Ready (tables_of memory.old) p }
+    requires within { i < 16 }
+    ensures { outcome result (tables_of memory.new) ≡ rewritten K.Kind.empty (tables_of memory.old) p x i }
+{
+    set_pending(memory, p, i, x);
     let steps = complete(&mut memory.processes[p]);
     answering(Effect::Nothing, Answer::Written { steps })
 }
@@ -41,16 +51,11 @@ pub(crate) fn hold<K: Kind>(
     ensures { outcome result (tables_of memory.new) ≡ held K.Kind.empty (tables_of memory.old) p x found }
 {
     let before = memory.processes[p];
-    let value = memory.hands[p];
     memory.objects[x] = Object {
         holder: Some(p),
         ..found
     };
-    put(
-        &mut memory.writes,
-        p * WRITE_PLACES + before.writes,
-        Slot { object: x, value },
-    );
+    set_pending(memory, p, before.writes, x);
     let effect = Effect::Took { object: x };
     let r = &mut memory.processes[p];
     r.writes += 1;
