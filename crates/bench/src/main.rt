@@ -3,16 +3,17 @@
 #![tactic(auto)]
 
 use anyhow::anyhow;
+use blocks::BLOCK_LEN;
 use session::Session;
 use std::io::Read;
-
-const BLOCK_LEN: usize = 512;
 
 fn run(rt: &HostRuntime) -> anyhow::Result<()> {
     let mut session = Session::new(rt.alloc())?;
     let mut input = rt.stdin();
+    let mut piece = Vec::with_capacity(rt.alloc(), BLOCK_LEN)?;
     for place in 0..u32::MAX {
-        let mut piece = Vec::with_capacity(rt.alloc(), BLOCK_LEN)?;
+        piece.clear();
+        // `as`, which loses nothing: there is no `From` of a `usize`.
         input
             .by_ref()
             .take(BLOCK_LEN as u64)

@@ -1,7 +1,7 @@
 // The lengths of a block and of its parts, in bytes, where the parts stand, and the number of the places.
 
 // A whole block.
-pub(crate) const BLOCK_LEN: usize = 512;
+pub const BLOCK_LEN: usize = 512;
 
 // What the check covers: the block without the check itself, which stands after it.
 pub(crate) const BODY_LEN: usize = 510;

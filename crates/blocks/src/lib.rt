@@ -31,6 +31,7 @@ mod round_trip;
 mod writer;
 
 pub use check::check_of;
+pub use layout::BLOCK_LEN;
 pub use reader::{Block, read_block};
 pub use record::Record;
 pub use refusal::Refusal;

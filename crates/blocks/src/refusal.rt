@@ -1,6 +1,9 @@
 // The reasons for which a block is refused, each with its number.
-ghost use Rattle.std.specs.Prelude.{◌≡◌};
-ghost use Rattle.blocks.specs.Refusals.{refusal_number};
+ghost use Rattle.std.specs.Prelude.{◌≡◌, Some};
+ghost use Rattle.blocks.specs.Refusals.{refusal_number, refusal_words};
+
+use std::error::Error;
+use std::fmt;
 
 // The question that was answered 'no'.
 #[derive(Clone, Copy, Debug, PartialEq, Eq)]
@@ -25,3 +28,14 @@ impl Refusal {
         self as u8
     }
 }
+
+impl fmt::Display for Refusal {
+    ghost output = { λ q. Some (refusal_words q) };
+
+    fn fmt<W: fmt::Write>(&self, f: &mut fmt::Formatter<W>) -> fmt::Result {
+        let question = self.number();
+        write!(f, "refused {question}")
+    }
+}
+
+impl Error for Refusal {}

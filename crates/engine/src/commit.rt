@@ -12,7 +12,7 @@ use super::reply::{answering, going};
 use banks::{Bank, LARGEST};
 use tables::{Answer, Conflict, Effect, Kind, Memory, Object, Phase, Stepped};
 
-// Ends the transaction with the answer committed.
+// Ends the transaction with the answer committed. (`give_up` is no twin: what it answers, it takes.)
 pub(crate) fn finish_commit<K: Kind>(memory: &mut Memory<K>, p: usize, effect: Effect) -> Stepped<K>
     requires { Ready (tables_of memory.old) p }
     ensures { outcome result (tables_of memory.new) ≡ committed K.Kind.empty (tables_of memory.old) p effect }

@@ -13,8 +13,8 @@ use engine::{place, step};
 use std::alloc::{AllocError, Global};
 use tables::{Kind, Memory};
 
-// Performs one call. A call is a value and no closure, since the journal keeps it. The memory and the bank come apart: in a
-// struct that has both, a bank could not serve several memories.
+// Performs one call. A call is a value and no closure, since the journal keeps it. (The memory and the bank are two arguments:
+// a struct that owns both would ask callers for a bank of each memory, and one of two `&mut` would be made for each call.)
 pub fn perform<K: Kind, B: Bank>(memory: &mut Memory<K>, bank: &mut B, call: Call<K>) -> Reply<K>
     ensures reply { result ≡ reply_to K.Kind.empty B.Bank.number (world (tables_of memory.old) bank.old) call }
     ensures after { tables_of memory.new ≡ (after_call K.Kind.empty B.Bank.number B.Bank.moved (world (tables_of memory.old) bank.old) call).tables }

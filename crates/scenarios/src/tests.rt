@@ -1,12 +1,9 @@
 // The runs of the tests. The comment beside a line of records has the numbers of their calls. Two processes make a
 // begin two steps long. A begun clock is the least of the two bank numbers, so it is 0 until both processes have
 // committed a write; the first access then raises it to the stamp that it finds.
-use anyhow::anyhow;
-use blocks::{Entry, write_block};
+use blocks::{BLOCK_LEN, Entry, write_block};
 use session::Session;
 use std::alloc::Global;
-
-const BLOCK_LEN: usize = 512;
 
 // A record of a block: a letter, a process, and the object and the content where the letter uses them.
 macro_rules! entry {
@@ -32,7 +29,7 @@ mod refused;
 // Adds a block of these records under this number to the input of a run.
 fn add_block(input: &mut Vec<u8>, number: u32, entries: &[Entry]) -> anyhow::Result<()> {
     let mut block = [0u8; BLOCK_LEN];
-    write_block(&mut block, number, entries).map_err(|_| anyhow!("the records make no block"))?;
+    write_block(&mut block, number, entries)?;
     input.extend_from_slice(&block)?;
     Ok(())
 }

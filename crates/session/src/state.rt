@@ -33,11 +33,11 @@ fn add_printed(
     heap: Global,
     text: &mut String,
     number: usize,
-    line: Line<u32>,
+    line: &Line<u32>,
 ) -> Result<(), AllocError>
-    ensures { is_ok result ≡ true → string_bytes text.new ≡ string_bytes text.old ++ printed_line number line }
+    ensures { is_ok result ≡ true → string_bytes text.new ≡ string_bytes text.old ++ printed_line number line.now }
 {
-    if let Some(printed) = line_text(heap, number, &line)? {
+    if let Some(printed) = line_text(heap, number, line)? {
         add_line(text, printed.as_str())?;
     }
     Ok(())
@@ -54,7 +54,7 @@ fn add_lines(
     ensures { is_ok result ≡ true → string_bytes text.new ≡ string_bytes text.old ++ printed done lines.now }
 {
     for (i, line) in lines.iter().enumerate() {
-        add_printed(heap, text, done + i + 1, *line)?;
+        add_printed(heap, text, done + i + 1, line)?;
     }
     Ok(())
 }
@@ -77,22 +77,20 @@ impl Session {
     pub fn carry_out(&mut self, heap: Global, place: u32, piece: &[u8]) -> anyhow::Result<bool>
         ensures { IfOk result (λ goes. Left place piece.now self.old goes self.new) }
     {
-        match carry_out(heap, &mut self.memory, &mut self.bank, piece, place) {
-            Ok(lines) => {
-                let done = self
-                    .done
-                    .checked_add(lines.len())
-                    .context("too many calls")?;
-                add_lines(heap, &mut self.text, self.done, lines.as_slice())?;
-                self.done = done;
-                Ok(true)
-            }
+        let lines = match carry_out(heap, &mut self.memory, &mut self.bank, piece, place) {
             Err(BlockError::Refused { refusal }) => {
                 let text = block_text(heap, place, refusal)?;
                 add_line(&mut self.text, text.as_str())?;
-                Ok(false)
+                return Ok(false);
             }
-            Err(error @ BlockError::NoMemory) => Err(error.into()),
-        }
+            carried => carried?,
+        };
+        let done = self
+            .done
+            .checked_add(lines.len())
+            .context("too many calls")?;
+        add_lines(heap, &mut self.text, self.done, lines.as_slice())?;
+        self.done = done;
+        Ok(true)
     }
 }

@@ -4,6 +4,7 @@ ghost use Rattle.tables.specs.Text.{conflict_words, answer_output, refusal_words
 
 use super::refusal::Refusal;
 use super::reply::{Answer, Conflict};
+use std::error::Error;
 use std::fmt;
 
 impl fmt::Display for Conflict {
@@ -41,3 +42,5 @@ impl fmt::Display for Refusal {
         write!(f, "refused {question}")
     }
 }
+
+impl Error for Refusal {}

@@ -2,8 +2,7 @@
 use Rattle.std.specs.Prelude.{ℕ, List, ◌++◌, Some, None, Ok, Err, codes, decimal, Option}
 use Rattle.blocks.specs.Refusals.{refusal_number as block_number}
 use Rattle.blocks.specs.declared.refusal.Refusal.{Refusal as BlockRefusal}
-use Rattle.tables.specs.Numbers.{refusal_number}
-use Rattle.tables.specs.Text.{answer_words}
+use Rattle.tables.specs.Text.{answer_words, refusal_words}
 use Rattle.tables.specs.declared.refusal.Refusal.{Refusal}
 use Rattle.tables.specs.declared.reply.Answer.{Answer}
 use Rattle.journal.specs.declared.call.Call.{Call}
@@ -20,7 +19,7 @@ abbrev pub answer_text : ℕ → ℕ → Answer ℕ → List ℕ
 answer_text n p a = after_caller n p (codes " " ++ answer_words decimal a)
 
 abbrev pub refused_text : ℕ → ℕ → Refusal → List ℕ
-refused_text n p q = after_caller n p (codes " refused " ++ decimal (refusal_number q))
+refused_text n p q = after_caller n p (codes " " ++ refusal_words q)
 
 -- what is printed of an answer, where there is one
 abbrev pub answered_text : ℕ → ℕ → Option (Answer ℕ) → Option (List ℕ)

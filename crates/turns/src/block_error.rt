@@ -36,10 +36,7 @@ impl fmt::Display for BlockError {
 
     fn fmt<W: fmt::Write>(&self, f: &mut fmt::Formatter<W>) -> fmt::Result {
         match self {
-            BlockError::Refused { refusal } => {
-                let question = refusal.number();
-                write!(f, "no such block: refused {question}")
-            }
+            BlockError::Refused { refusal } => write!(f, "no such block: {refusal}"),
             BlockError::NoMemory => write!(f, "no memory for a block"),
         }
     }

@@ -1,7 +1,7 @@
 // The calls that the records of a turn block ask for.
 ghost use Rattle.std.specs.Prelude.{◌≡◌, ◌<◌, map, IfOk};
 ghost use Rattle.std.specs.List.{range_with_len};
-ghost use Rattle.blocks.specs.Reading.{said_at, records_of};
+ghost use Rattle.blocks.specs.Reading.{said_at};
 ghost use Rattle.blocks.specs.Records.{said};
 ghost use Rattle.turns.specs.Calls.{number_in, call_of, Called};
 
@@ -75,7 +75,7 @@ fn call_at(block: Block<'_>, i: usize) -> Call<u32>
 {
     match block.record(i) {
         Some(turn) => call_for(turn),
-        None => unreachable(),
+        None => unreachable!(),
     }
 }
 
@@ -86,7 +86,7 @@ fn block_calls(heap: Global, block: Block<'_>) -> Result<Vec<Call<u32>>, AllocEr
     (0..block.count()).map(|i| call_at(block, i)).collect(heap)
 }
 
-// The calls of the block in the bytes, where it is number `next`.
+// The calls of the block in the bytes, where it is number `next`. (Bytes and number are two arguments, as in the reader.)
 #[tactic(auto, using(crate::proofs::Records::calls_of_records))]
 pub fn calls_in(heap: Global, bytes: &[u8], next: u32) -> Result<Vec<Call<u32>>, BlockError>
     ensures { Called bytes.now next result }

@@ -11,7 +11,8 @@ use std::alloc::Global;
 use tables::Memory;
 
 // Carries out the block in the bytes, where it is number `next`, and gives the journal of its calls. All questions on
-// the block are asked before any call is made; a block that is refused alters nothing.
+// the block are asked before any call is made; a block that is refused alters nothing. (Memory and bank, and bytes and number,
+// are apart, as in the functions below.)
 pub fn carry_out<B: Bank>(
     heap: Global,
     memory: &mut Memory<u32>,

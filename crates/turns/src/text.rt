@@ -2,15 +2,16 @@
 ghost use Rattle.std.specs.Prelude.{◌≡◌, IfOk, None, Ok, string_bytes};
 ghost use Rattle.turns.specs.Text.{reply_text, bytes_of, caller_of, refused_block_text};
 
-use blocks::Refusal as BlockRefusal;
+use blocks::Refusal;
 use journal::{Call, Done, Line, Reply};
 use std::alloc::{AllocError, Global};
 
 // A refused block: its place among the blocks, and the number of the question; the text of neither alone, so no `Display`.
-pub fn block_text(heap: Global, place: u32, refusal: BlockRefusal) -> Result<String, AllocError>
+pub fn block_text(heap: Global, place: u32, refusal: Refusal) -> Result<String, AllocError>
     ensures { IfOk result (λ s. string_bytes s ≡ refused_block_text place refusal) }
 {
     let question = refusal.number();
+    // Through `?`, after which the check puts the number in, so that a wrong line fails here.
     let line = format!(in heap; "block {place} {question}")?;
     Ok(line)
 }
@@ -40,10 +41,7 @@ fn reply_line(
             Some(answer) => Ok(Some(format!(in heap; "{number} {process} {answer}")?)),
             None => Ok(None),
         },
-        Err(refusal) => {
-            let question = refusal.number();
-            Ok(Some(format!(in heap; "{number} {process} refused {question}")?))
-        }
+        Err(refusal) => Ok(Some(format!(in heap; "{number} {process} {refusal}")?)),
     }
 }
 

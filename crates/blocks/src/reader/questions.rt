@@ -25,7 +25,7 @@ fn letters_known(bytes: &[u8], count: usize) -> bool
 }
 
 // The block in the bytes, where its number is the next one; or the first of the five questions that is answered 'no'.
-// (Bytes and number are two arguments here and above: a struct of both would be made at each call and taken apart here.)
+// (Bytes and number are two arguments: a struct of both would be made at each call and taken apart here.)
 #[tactic(auto, using(crate::proofs::Listed::full))]
 pub fn read_block<'a>(bytes: &'a [u8], next: u32) -> Result<Block<'a>, Refusal>
     ensures { Opens bytes.now next result }

@@ -1,4 +1,5 @@
 // The engine at dock records.
+use anyhow::Context;
 use banks::{CommonBank, LARGEST};
 use docks::{Dock, Hire};
 use engine::{place, step};
@@ -46,10 +47,7 @@ fn purse_and_bay(rt: HostRuntime) -> Result<(), Fail> {
         },
     ];
     let mut memory = Memory::fresh(rt.alloc(), &contents, 2)?;
-    // No `ok_or`: a `Fail` that is not returned could not be dropped.
-    let Some(mut bank) = CommonBank::at(LARGEST - 1) else {
-        return Err(Fail::new("no such bank"));
-    };
+    let mut bank = CommonBank::at(LARGEST - 1).context("no such bank")?;
     let pay = Request::Write {
         object: 2,
         content: DEBT,
