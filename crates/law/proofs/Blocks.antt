@@ -1,6 +1,6 @@
 -- Each block of events that a step shows keeps what is on record in agreement with the protocol.
 use Rattle.std.proofs.Common.{◌≡◌, ℕ, zero, suc, ◌+◌, ◌<◌, ◌≤◌, Bool, true, cond, eqb, List, [], ◌∷◌, ◌++◌, length, Some, None, Option, sym, refl, ap, ◌∙◌, subst, inl, inr, arith}
-use Rattle.std.proofs.lemmas.Bool.{eq-eqb, cond-true}
+use Rattle.std.proofs.lemmas.Bool.{eq-eqb, cond-true, true≢false}
 use Rattle.tables.specs.declared.reply.Conflict.{Conflict}
 use Rattle.tables.specs.declared.reply.Request.{Request}
 use Rattle.tables.specs.declared.reply.Request.TheVariants.{Begin, Read, Write}
@@ -58,7 +58,7 @@ use Rattle.law.specs.Ledger.Found.{version}
 use Rattle.law.specs.Ledger.Desk.{free, asked}
 use Rattle.law.specs.Law.{In, Known}
 use Rattle.law.proofs.Times.{noted_has}
-use Rattle.law.proofs.Traces.{when, true_false, desk_new, hold_taken, among_in}
+use Rattle.law.proofs.Traces.{when, desk_new, hold_taken, among_in}
 use Rattle.law.proofs.Versions.{name}
 use Rattle.law.proofs.Requests.{AsksAs, todo, started}
 use Rattle.law.proofs.Contents.{ContentOf}
@@ -219,7 +219,7 @@ module _ {K : Type 0} where
 
     no_holds : (state start b es).phase p ≡ starting → Covers (makers j) (holds j ((history es).current p))
     no_holds e h i =
-        absurd (true_false (sym (among_in h.object (taken j ((history es).current p)) (hold_taken j ((history es).current p) h i))
+        absurd (true≢false (sym (among_in h.object (taken j ((history es).current p)) (hold_taken j ((history es).current p) h i))
         ∙ c.versions.wrote ((history es).current p) h.object
         ∙ ap (λ (l : List Access). writes l h.object) ((all P start b es lawful).kept.currents.clean p e)))
 

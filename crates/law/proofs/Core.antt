@@ -12,7 +12,7 @@ use Rattle.protocol.specs.Protocol.{Phase, Held, Event, Cause, Lawful, state}
 use Rattle.protocol.specs.Protocol.Held.{nobody, by}
 use Rattle.protocol.specs.Protocol.Phase.{out, running, certifying, aborting, sealing}
 use Rattle.protocol.specs.Protocol.Event.{ready, answer, own, write, certify, seal, finish, store, fail, free, commit, close}
-use Rattle.protocol.specs.History.{History, Access, Mark, history, writes}
+use Rattle.protocol.specs.History.{Access, Mark, history, writes}
 use Rattle.protocol.specs.History.Access.{rd, ov}
 use Rattle.protocol.specs.History.Mark.{none, some}
 use Rattle.protocol.specs.Alone.{Operation, after}
@@ -28,7 +28,7 @@ use Rattle.law.specs.Ledger.Found.{version, pending}
 use Rattle.law.specs.Ledger.Desk.{asked}
 use Rattle.protocol.specs.History as events
 use Rattle.law.specs.Law.{Known}
-use Rattle.law.proofs.Traces.{true_false, known_or, first_before, hold_before, reading_before, hold_taken, taken_held, among_in}
+use Rattle.law.proofs.Traces.{known_or, first_before, hold_before, reading_before, hold_taken, taken_held, among_in}
 use Rattle.law.proofs.Times.{Ends, ends_end, Seals, seals_end, seals_make, seals_at, Bases, bases_at, bases_begin, bases_make, noted, noted_same, noted_keeps, noted_known}
 use Rattle.law.proofs.Versions.{name, chain_name, Versions, versions_log, versions_rewrite, versions_take, versions_store, versions_end, versions_make}
 use Rattle.law.proofs.Accesses.{Logs, logs_read, logs_own, logs_take, logs_rewrite, logs_make}
@@ -337,7 +337,7 @@ module _ {K : Type 0} where
         unsealed =
             elim (known_or (sealed_at j ((history es).current p))) [
               | inl e ↦ e
-              | inr e ↦ absurd (true_false (sym (c.seals.known ((history es).current p) e) ∙ open_is (inr cert)))
+              | inr e ↦ cc (sym (c.seals.known ((history es).current p) e) ∙ open_is (inr cert))
             ]
 
         latest' : ℕ → ℕ

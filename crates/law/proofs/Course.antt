@@ -1,7 +1,8 @@
 -- The tables of a memory, its bank and the trace of its run stand together; every call keeps them so.
 use Rattle.std.proofs.Common.{◌≡◌, ℕ, suc, ◌+◌, ◌-◌, ◌*◌, ◌^◌, ◌<◌, ◌≤◌, Bool, true, false, cond, not, eqb, ◌⊎◌, List, [], ◌∷◌, ◌++◌, length, get_or, drop, Some, None, Ok, Option, sym, refl, ap, ◌∙◌, subst, inl, inr, arith}
 use Rattle.std.proofs.lemmas.List.{append_assoc, get_or-map, get_or_past, get_or-replicate, length-map, length-replicate}
-use Rattle.std.proofs.lemmas.Bool.{cases_eq, cases_Bool, cases_lt, eq-eqb, ne_eqb, eqb-false, cond-true, cond-false}
+use Rattle.std.proofs.lemmas.Bool.{cases_eq, cases_Bool, cases_lt, eq-eqb, ne_eqb, eqb-false, cond-true, cond-false, not-true}
+use Rattle.std.proofs.lemmas.Option.{same_Some}
 use Rattle.tables.specs.Fresh.{unheld, fresh_tables}
 use Rattle.tables.specs.Lookup.{value_of}
 use Rattle.tables.specs.Tables.{Tables, process_at, object_at, hand_at, read_set, write_set, idle_process, blank_object, numbers_ok}
@@ -71,12 +72,12 @@ use Rattle.refinement.proofs.Own.{Good, PhaseOwn}
 use Rattle.refinement.proofs.Rows.{Row, row}
 use Rattle.refinement.proofs.View.{gone, pending_of, HolderAs, LiveAs, RowAs, View, row_at}
 use Rattle.refinement.proofs.Windows.{window}
-use Rattle.law.specs.Trace.{Entry, Trace, entry}
+use Rattle.law.specs.Trace.{Trace, entry}
 use Rattle.law.specs.Trace.Act.{placed, made}
-use Rattle.law.specs.Ledger.{Found, Desk, is, count, whose, begun_at, freed_at, stored_at, taken, desk, desk_on, finds, of_request, of_answer, answer_of}
+use Rattle.law.specs.Ledger.{Found, Desk, is, count, whose, freed_at, stored_at, taken, desk, desk_on, finds, of_request, of_answer}
 use Rattle.law.specs.Ledger.Desk.{free, asked}
-use Rattle.law.specs.Law.{Known, Disturbed, Justified, Prompt, Counted, most, Lawful as LawfulRun}
-use Rattle.law.proofs.Traces.{none_some, some_same, true_false, unborn_at}
+use Rattle.law.specs.Law.{Disturbed, Justified, Prompt, Counted, most, Lawful as LawfulRun}
+use Rattle.law.proofs.Traces.{unborn_at}
 use Rattle.law.proofs.Others.{desk_other}
 use Rattle.law.proofs.Matches.{Matches, matches_step, base_certify, base_withdraw, lawful_split}
 use Rattle.law.proofs.Placed.{matches_ask, matches_begin}
@@ -99,33 +100,33 @@ freeing n i s x y =
 module _ {K : Type 0} where
   -- an answer counts one step more than were made
   count_is : {s : State K} {p : ℕ} {r : Request K} {n : ℕ} {o o' : Option Conflict} {z : Stepped K} {fs : List (Event K)} → Block s p r n o z fs o' → (k : ℕ) → (of_answer z.answer).steps ≡ Some k → k ≡ n + 1
-  count_is (reads_bank n) k e = absurd (none_some e)
-  count_is (begins n c) k e = sym (some_same e)
-  count_is (reads_own x v n z) k e = sym (some_same e)
-  count_is (reads_now x i v n z) k e = sym (some_same e)
-  count_is (reads_later x i v n z) k e = sym (some_same e)
-  count_is (reads_waits x v n z) k e = absurd (none_some e)
-  count_is (extends_read x y n) k e = absurd (none_some e)
-  count_is (reads_extended x i v y n) k e = sym (some_same e)
-  count_is (rewrites x v u n z h) k e = sym (some_same e)
-  count_is (takes_now x v n z h) k e = sym (some_same e)
-  count_is (takes_later x v n z h) k e = sym (some_same e)
-  count_is (takes_waits x v n z h) k e = absurd (none_some e)
-  count_is (extends_write x v y n l) k e = absurd (none_some e)
-  count_is (writes_extended x v y n l) k e = sym (some_same e)
-  count_is (passes y n) k e = absurd (none_some e)
-  count_is (passes_last y n) k e = sym (some_same e)
-  count_is (commits_nothing n) k e = sym (some_same e)
-  count_is (seals t i n) k e = absurd (none_some e)
-  count_is (stores x v t n) k e = absurd (none_some e)
-  count_is (stores_last x v t n) k e = sym (some_same e)
-  count_is (stops r i n) k e = absurd (none_some e)
-  count_is (aborts r i n) k e = sym (some_same e)
-  count_is (frees r o x v n) k e = absurd (none_some e)
-  count_is (aborts_freed r i x v n) k e = sym (some_same e)
-  count_is (aborts_empty r i n) k e = sym (some_same e)
-  count_is (withdraws_freed x v n) k e = sym (some_same e)
-  count_is (withdraws_empty n) k e = sym (some_same e)
+  count_is (reads_bank n) k e = cc
+  count_is (begins n c) k e = cc
+  count_is (reads_own x v n z) k e = cc
+  count_is (reads_now x i v n z) k e = cc
+  count_is (reads_later x i v n z) k e = cc
+  count_is (reads_waits x v n z) k e = cc
+  count_is (extends_read x y n) k e = cc
+  count_is (reads_extended x i v y n) k e = cc
+  count_is (rewrites x v u n z h) k e = cc
+  count_is (takes_now x v n z h) k e = cc
+  count_is (takes_later x v n z h) k e = cc
+  count_is (takes_waits x v n z h) k e = cc
+  count_is (extends_write x v y n l) k e = cc
+  count_is (writes_extended x v y n l) k e = cc
+  count_is (passes y n) k e = cc
+  count_is (passes_last y n) k e = cc
+  count_is (commits_nothing n) k e = cc
+  count_is (seals t i n) k e = cc
+  count_is (stores x v t n) k e = cc
+  count_is (stores_last x v t n) k e = cc
+  count_is (stops r i n) k e = cc
+  count_is (aborts r i n) k e = cc
+  count_is (frees r o x v n) k e = cc
+  count_is (aborts_freed r i x v n) k e = cc
+  count_is (aborts_empty r i n) k e = cc
+  count_is (withdraws_freed x v n) k e = cc
+  count_is (withdraws_empty n) k e = cc
 
   act_count : {s : State K} {p : ℕ} {r : Request K} {n : ℕ} {o o' : Option Conflict} {z : Stepped K} {fs : List (Event K)} → Act s p r n o z fs o' → (k : ℕ) → (of_answer z.answer).steps ≡ Some k → k ≡ n + 1
   act_count (plain d a) k e = count_is a k e
@@ -168,7 +169,7 @@ module _ {K : Type 0} where
         let base' = base_certify P start b j es lawful c.base p who in' n f q parts.0.1.runs whole in
         let watch' = watch_certify P start b j es lawful c.base w p who in' parts.0.1.runs whole in
         elim (blames P start b j (certify p ∷ es) whole base' watch' p who certain a parts.1 k e) [
-          | inl h ↦ absurd (none_some h)
+          | inl h ↦ cc
           | inr h ↦ justifies P start b j (certify p ∷ es) whole base' watch' p who certain (entry p (made z)) k h.0 h.1
         ]
     act_justifies {z = z} f (withdrawing_first {es = fs} d a) m q k e before =
@@ -177,7 +178,7 @@ module _ {K : Type 0} where
         let base' = base_withdraw P start b j es lawful c.base p who in' whole in
         let watch' = watch_withdraw P start b j es lawful c.base w p who in' whole in
         elim (blames P start b j (fail p withdrawn ∷ es) whole base' watch' p who given_up a parts.1 k e) [
-          | inl h ↦ absurd (none_some h)
+          | inl h ↦ cc
           | inr h ↦ justifies P start b j (fail p withdrawn ∷ es) whole base' watch' p who given_up (entry p (made z)) k h.0 h.1
         ]
 
@@ -318,7 +319,7 @@ module _ {K B : Type 0} (e : K) (number : B → ℕ → ℕ) (moved : B → ℕ 
     -- the conflict of p's request is justified
     justify : (k : Conflict) → (adv.conflict ≡ Some k) ⊎ ((of_answer z.answer).conflict ≡ Some k) → (v : ℕ) → whose j p ≡ Some v → Justified (entry p (made z) ∷ j) v k
     justify k why v q =
-        subst (λ (x : ℕ). Justified (entry p (made z) ∷ j) x k) (some_same (sym who ∙ q))
+        subst (λ (x : ℕ). Justified (entry p (made z) ∷ j) x k) (same_Some _ _ (sym who ∙ q))
         (act_justifies P start b j c.events c.lawful c.matches c.watch p who opened in_hand.1 act may in_hand.3 k why (λ s. (c.desks p).stopped k s ((history c.events).current p) who))
 
     mine : Desked (process_at u p) (hand_at e u p) (entry p (made z) ∷ j) p
@@ -350,7 +351,7 @@ module _ {K B : Type 0} (e : K) (number : B → ℕ → ℕ) (moved : B → ℕ 
         over : (a : Option (Answer K)) → z.answer ≡ a → Goes in_hand.0 (process_at t p).steps adv.conflict a (process_at u p) (hand_at e u p)
             → (k : Conflict) → stopped_by (process_at u p).phase ≡ Some k → (v : ℕ) → whose j p ≡ Some v → Justified (entry p (made z) ∷ j) v k
         over None q g k s v w = justify k (inl (sym g.2 ∙ s)) v w
-        over (Some a) q g k s v w = absurd (none_some (ap stopped_by (sym g.0) ∙ s))
+        over (Some a) q g k s v w = cc (ap stopped_by (sym g.0) ∙ s)
 
     others : (q : ℕ) → (p ≡ q → ⊥) → Desked (process_at u q) (hand_at e u q) (entry p (made z) ∷ j) q
     others q d =
@@ -443,12 +444,8 @@ module _ {K B : Type 0} (e : K) (number : B → ℕ → ℕ) (moved : B → ℕ 
     kept : (q : Request K) → (process_at t p).phase ≡ Idle → due q (process_at t p).live ≡ true
         → Matches start b (entry p (placed q) ∷ j) (placing_events p q ++ c.events) × Watch start b (entry p (placed q) ∷ j) (placing_events p q ++ c.events)
     kept Begin idle d =
-        let ended : (state start b c.events).phase p ≡ out = (row_of e number' t (state start b c.events) p c.view false (not_live (process_at t p).live d)).0 in
+        let ended : (state start b c.events).phase p ≡ out = (row_of e number' t (state start b c.events) p c.view false (not-true (process_at t p).live d)).0 in
         (matches_begin P start b j c.events c.lawful c.matches p ended, watch_begin ended)
-      where
-        not_live : (k : Bool) → not k ≡ true → k ≡ false
-        not_live false h = refl
-        not_live true h = absurd (true_false (sym h))
     kept (Read x) idle d = (matches_ask P start b j c.events c.lawful c.matches p (who_is d) (runs idle d) (nothing idle) (Read x) (λ i. cc), watch_ask (Read x))
     kept (Write x v) idle d = (matches_ask P start b j c.events c.lawful c.matches p (who_is d) (runs idle d) (nothing idle) (Write x v) (λ i. cc), watch_ask (Write x v))
     kept Commit idle d = (matches_ask P start b j c.events c.lawful c.matches p (who_is d) (runs idle d) (nothing idle) Commit (λ i. cc), watch_ask Commit)
@@ -470,11 +467,11 @@ module _ {K B : Type 0} (e : K) (number : B → ℕ → ℕ) (moved : B → ℕ 
     others_begun Withdraw n d = refl
 
     unstopped : (q : Request K) (k : Conflict) → stopped_by (placed_process {K = K} (process_at t p) q).phase ≡ Some k → ⊥
-    unstopped Begin k h = none_some h
-    unstopped (Read x) k h = none_some h
-    unstopped (Write x v) k h = none_some h
-    unstopped Commit k h = none_some h
-    unstopped Withdraw k h = none_some h
+    unstopped Begin k h = cc
+    unstopped (Read x) k h = cc
+    unstopped (Write x v) k h = cc
+    unstopped Commit k h = cc
+    unstopped Withdraw k h = cc
 
     unextended : (q : Request K) → HasStepped (placed_process {K = K} (process_at t p) q).phase (placed_process {K = K} (process_at t p) q).steps
     unextended Begin = tt
@@ -513,7 +510,7 @@ module _ {K B : Type 0} (e : K) (number : B → ℕ → ℕ) (moved : B → ℕ 
           matches = both.0;
           watch = both.1;
           desks = desks';
-          prompt = (c.prompt, (λ n r k f i. soon e P u (entry p (placed q) ∷ j) good' processes' n (desks' n) r k f i), tt, λ v k w s. absurd (none_some s));
+          prompt = (c.prompt, (λ n r k f i. soon e P u (entry p (placed q) ∷ j) good' processes' n (desks' n) r k f i), tt, λ v k w s. cc);
         }
 
 -- A fresh memory, before any call.
@@ -543,7 +540,7 @@ module _ {K : Type 0} (e : K) (number : ℕ → ℕ) (contents : List K) (n : �
       let t = fresh_tables e contents n in
       let F : Process → Type 0 = λ r. value_of (drop (gone r.phase) (window t.writes (p * 16) r.writes)) x ≡ Some v in
       let k : None ≡ Some v = subst F (processes p) h in
-      absurd (none_some k)
+      cc
 
   pub fresh_view : View e number (fresh_tables e contents n) (fresh opening number)
   fresh_view =
@@ -568,23 +565,23 @@ module _ {K : Type 0} (e : K) (number : ℕ → ℕ) (contents : List K) (n : �
         base =
             record {
               counts = refl;
-              who = λ p u h. absurd (none_some h);
+              who = λ p u h. cc;
               core =
                   record {
-                    ends = record { ends = λ t h. absurd (none_some h.1); before = λ t u h. absurd (none_some h.2) };
-                    seals = record { known = λ t h. absurd (none_some h.1); noted_too = λ t h. absurd (true_false (sym h)); made = λ i l m. absurd (omega arith) };
+                    ends = record { ends = λ t h. cc h.1; before = λ t u h. cc h.2 };
+                    seals = record { known = λ t h. cc h.1; noted_too = λ t h. cc; made = λ i l m. absurd (omega arith) };
                     bases = record { above = λ t i l m h. absurd (omega arith); since = λ t i l m k h. absurd (omega arith) };
-                    versions = record { line = λ x. refl; wrote = λ t x. refl; due = λ x. inl refl; storers = λ t x h. absurd (none_some h.1) };
+                    versions = record { line = λ x. refl; wrote = λ t x. refl; due = λ x. inl refl; storers = λ t x h. cc h.1 };
                     logs = record { reads = λ t r m h k. absurd h; held = λ t h k. absurd k; dated = λ t. tt; replaced = λ i h l m k. absurd (omega arith) };
-                    ops = record { gets = λ t. refl; asks = λ t h. absurd (true_false (sym h)) };
+                    ops = record { gets = λ t. refl; asks = λ t h. cc };
                     contents = record { present = λ x. refl; genuine = λ t r m h k. absurd h };
                     logged = λ t a h. absurd h;
                     owing = record { owes = λ p x v u h k. absurd (unheld_by k) };
                   };
-              ordered = λ t h. absurd (true_false (sym h));
+              ordered = λ t h. cc;
               standing = λ p h. absurd (h refl);
             };
-        certs = record { known = λ t h. absurd (none_some h.1); later = λ i l. absurd (omega arith); ordered = λ h i l m. absurd (omega arith) };
+        certs = record { known = λ t h. cc h.1; later = λ i l. absurd (omega arith); ordered = λ h i l m. absurd (omega arith) };
         certified = λ p m f o h. absurd (o refl);
       }
 
@@ -607,7 +604,7 @@ module _ {K : Type 0} (e : K) (number : ℕ → ℕ) (contents : List K) (n : �
         watch = fresh_watch;
         desks = λ p.
             subst (λ (r : Process). Desked r (hand_at e (fresh_tables e contents n) p) [] p) (sym (processes p))
-            (record { hand = inl (refl, refl); begun = λ l. absurd (true_false (sym l)); stopped = λ k s v w. absurd (none_some s); stepped = tt });
+            (record { hand = inl (refl, refl); begun = λ l. cc; stopped = λ k s v w. cc; stepped = tt });
         prompt = tt;
       }
 

@@ -1,6 +1,7 @@
 -- An abort has a reason: another transaction held the object that it names, while both were open.
 use Rattle.std.proofs.Common.{◌≡◌, ℕ, suc, ◌<◌, ◌≤◌, Bool, true, false, cond, ◌&&◌, eqb, ◌⊎◌, List, [], ◌∷◌, length, Some, None, Option, sym, refl, ap, ◌∙◌, subst, inl, inr, arith}
 use Rattle.std.proofs.lemmas.Bool.{cases_eq, eq-eqb, cond-true}
+use Rattle.std.proofs.lemmas.Option.{same_Some}
 use Rattle.tables.specs.declared.reply.Conflict.{Conflict}
 use Rattle.tables.specs.declared.reply.Conflict.TheVariants as conflict
 use Rattle.protocol.specs.Table.{put}
@@ -13,7 +14,7 @@ use Rattle.protocol.proofs.Freshness.{FreshOf}
 use Rattle.law.specs.Trace.{Act, Entry, Trace}
 use Rattle.law.specs.Ledger.{first, is, among, count, whose, belongs, first_at, begins as begins_now, placed_at, ended_at, stored_at, freed_at, taken, holds, effect_of, hold}
 use Rattle.law.specs.Law.{Known, OpenAt, HeldAt, Disturbed, Justified}
-use Rattle.law.proofs.Traces.{none_some, some_same, first_before, hold_before, taken_held, push_keeps}
+use Rattle.law.proofs.Traces.{first_before, hold_before, taken_held, push_keeps}
 
 module _ {K : Type 0} where
   -- a time on record stays, and a new one is the time of the entry
@@ -21,7 +22,7 @@ module _ {K : Type 0} where
   first_stays f l j t m h = go (f l.act && belongs l j t) (first_at f j t) h
     where
       go : (b : Bool) (o : Option ℕ) → o ≡ Some m → cond b (Some (first o (length j))) o ≡ Some m
-      go true None e = absurd (none_some e)
+      go true None e = cc
       go true (Some n) e = e
       go false o e = e
 
@@ -29,7 +30,7 @@ module _ {K : Type 0} where
   first_late f l j t m h = go (f l.act && belongs l j t) (first_at f j t) refl h
     where
       go : (b : Bool) (o : Option ℕ) → first_at f j t ≡ o → cond b (Some (first o (length j))) o ≡ Some m → (first_at f j t ≡ Some m) ⊎ (m ≡ length j)
-      go true None q e = inr (sym (some_same e))
+      go true None q e = inr (sym (same_Some _ _ e))
       go true (Some n) q e = inl (q ∙ e)
       go false o q e = inl (q ∙ e)
 
@@ -105,7 +106,7 @@ module _ {K : Type 0} where
       )
     where
       at_end : (f : Act K → Bool) (v m : ℕ) → first_at f j v ≡ None → first_at f (l ∷ j) v ≡ Some m → length j ≤ m
-      at_end f v m none e = elim (first_late f l j v m e) [ inl q ↦ absurd (none_some (sym none ∙ q)) | inr q ↦ omega arith ]
+      at_end f v m none e = elim (first_late f l j v m e) [ inl q ↦ cc (sym none ∙ q) | inr q ↦ omega arith ]
 
       open_now : (v : ℕ) → Known (placed_at j v) → ended_at j v ≡ None → OpenAt (l ∷ j) v (length j)
       open_now v k e =

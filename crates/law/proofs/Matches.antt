@@ -55,7 +55,7 @@ use Rattle.law.specs.Trace.Act.{made}
 use Rattle.law.specs.Ledger.{Found, Desk, Hold, first, is, among, count, whose, wrote, makers, latest, taken, holds, requests, desk, desk_on, certifies, certified_at, of_request}
 use Rattle.law.specs.Ledger.Desk.{free, asked}
 use Rattle.law.specs.Law.{In, Known}
-use Rattle.law.proofs.Traces.{true_false, push_false, hold_taken, among_in, certified_before}
+use Rattle.law.proofs.Traces.{push_false, hold_taken, among_in, certified_before}
 use Rattle.law.proofs.Times.{Certs, certs_at, certs_begin, noted_same, noted_has}
 use Rattle.law.proofs.Requests.{AsksAs, todo, started}
 use Rattle.law.proofs.Standing.{Going, in_certifying, in_aborting}
@@ -343,11 +343,11 @@ module _ {K : Type 0} where
 
   -- a request that is a commit
   commits_is : (r : Request K) → (of_request r).commits ≡ true → r ≡ Commit
-  commits_is Begin e = absurd (true_false (sym e))
-  commits_is (Read x) e = absurd (true_false (sym e))
-  commits_is (Write x v) e = absurd (true_false (sym e))
+  commits_is Begin e = cc
+  commits_is (Read x) e = cc
+  commits_is (Write x v) e = cc
   commits_is Commit e = refl
-  commits_is Withdraw e = absurd (true_false (sym e))
+  commits_is Withdraw e = cc
 
   -- a commit in hand after a step was in hand before it
   still_commit : (j : Trace K) (w : Option ℕ) (r : Request K) (n : ℕ) (f : Option Found) (a : Option (Answer K)) (m : ℕ) (g : Option Found) → desk_on j w (asked r n f) a ≡ asked Commit m g → r ≡ Commit

@@ -1,7 +1,7 @@
 -- The requests on record, the operations of the protocol, and the run alone.
 use Rattle.std.proofs.Common.{◌≡◌, ℕ, zero, suc, Bool, true, false, cond, eqb, List, [], ◌∷◌, ◌++◌, Some, sym, refl, ap, ◌∙◌, subst, inl, inr}
 use mathlib.Core.Path.{fun_ext}
-use Rattle.std.proofs.lemmas.Bool.{cases_eq}
+use Rattle.std.proofs.lemmas.Bool.{cases_eq, true≢false}
 use Rattle.tables.specs.declared.reply.Request.{Request}
 use Rattle.tables.specs.declared.reply.Request.TheVariants.{Begin, Read, Write, Commit, Withdraw}
 use Rattle.protocol.specs.Table.{put}
@@ -14,7 +14,7 @@ use Rattle.law.specs.Trace.{Trace}
 use Rattle.law.specs.Ledger.{Reading, Desk, first, requests, readings}
 use Rattle.law.specs.Ledger.Desk.{free, asked}
 use Rattle.law.specs.Law.{In, Alone, shows, fed, gotten, alone, contents, SameReads}
-use Rattle.law.proofs.Traces.{when, true_false}
+use Rattle.law.proofs.Traces.{when}
 
 module _ {K : Type 0} where
   -- the requests of operations, and what their reads got
@@ -59,7 +59,7 @@ module _ {K : Type 0} where
       (c : Ops readings requests operations sealed) (t : ℕ) where
     -- a sealed transaction is another than one that is not
     not_sealed : sealed t ≡ false → (u : ℕ) → sealed u ≡ true → t ≡ u → ⊥
-    not_sealed o u h e = true_false (sym h ∙ ap sealed (sym e) ∙ o)
+    not_sealed o u h e = true≢false (sym h ∙ ap sealed (sym e) ∙ o)
 
     still : (d : Operation K) → sealed t ≡ false → (u : ℕ) → sealed u ≡ true → requests u ≡ Commit ∷ started (put operations t (d ∷ operations t) u)
     still d o u h =

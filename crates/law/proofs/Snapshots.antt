@@ -12,10 +12,10 @@ use Rattle.law.specs.Trace.{Trace}
 use Rattle.law.specs.Ledger.{Maker, Reading, placed_at, readings, holds, makers, taken, begins}
 use Rattle.law.specs.Ledger.Maker.{opening, by}
 use Rattle.law.specs.Ledger.Found.{version}
-use Rattle.law.specs.Law.{In, Known, NewerBy, Newer, ReadOf, Replaced, Follows, ComesAfter, KnownTo, Fair, Consistent}
+use Rattle.law.specs.Law.{In, NewerBy, Newer, ReadOf, Replaced, Follows, ComesAfter, KnownTo, Fair, Consistent}
 use Rattle.law.specs.Law.Follows.{reading as follows_reading, replacing as follows_replacing, chain as follows_chain}
 use Rattle.law.specs.Law.ComesAfter.{reading as after_reading, replacing as after_replacing, later as after_later, chain as after_link}
-use Rattle.law.proofs.Traces.{none_some, unborn_at, hold_taken, among_in}
+use Rattle.law.proofs.Traces.{unborn_at, hold_taken, among_in}
 use Rattle.law.proofs.Versions.{name, name_made, Chain}
 use Rattle.law.proofs.Accesses.{Dated, Recorded}
 use Rattle.law.proofs.Writers.{writers}
@@ -125,7 +125,7 @@ module _ {K : Type 0} (P : ℕ) (start : ℕ → K) (b : ℕ → ℕ) (j : Trace
       begun_too m h =
           elim (cases_lt t (history es).begun) [
             | inl l ↦ l
-            | inr l ↦ absurd (none_some (sym (unborn_at begins j t (let k = c.base.counts in omega arith)) ∙ h))
+            | inr l ↦ cc (sym (unborn_at begins j t (let k = c.base.counts in omega arith)) ∙ h)
           ]
   comes_after (after_link w f g) = after_chain (comes_after f) (comes_after g)
 

@@ -7,7 +7,7 @@ use Rattle.protocol.specs.History.Mark.{some}
 use Rattle.protocol.proofs.Updates.{put_same, put_other}
 use Rattle.law.specs.Ledger.{first}
 use Rattle.law.specs.Law.{Known, Earlier}
-use Rattle.law.proofs.Traces.{some_same, known_or, first_known, first_new}
+use Rattle.law.proofs.Traces.{known_or, first_known, first_new}
 
 -- a time that is noted for one transaction, unless it has one already
 abbrev pub noted : (ℕ → Bool) → (ℕ → Option ℕ) → ℕ → ℕ → Option ℕ
@@ -70,7 +70,7 @@ ends_end ended_at placed_at ended begun_at b t k now own past going c =
           elim (cases_eq t u) [
             | inl e ↦ absurd (
                 let i : noted b ended_at k u ≡ Some k = subst (λ (w : ℕ). noted b ended_at k w ≡ Some k) e (noted_new b t k own ended_at unknown) in
-                let n : k ≡ h.0 = some_same (sym i ∙ h.2) in
+                let n : k ≡ h.0 = cc (sym i ∙ h.2) in
                 let m = past v h.1 h.3 in
                 let o = h.4 in
                 omega arith
@@ -237,7 +237,7 @@ bases_begin begun_at sealed_at base seals maker b t k own past new c =
           elim (cases_eq t u) [
             | inl e ↦ absurd (
                 let w : noted b begun_at k u ≡ Some k = subst (λ (v : ℕ). noted b begun_at k v ≡ Some k) e (noted_new b t k own begun_at new) in
-                let x : k ≡ h.0 = some_same (sym w ∙ h.2) in
+                let x : k ≡ h.0 = cc (sym w ∙ h.2) in
                 let y = past (maker i) h.1 h.3 in
                 let o = h.4 in
                 omega arith

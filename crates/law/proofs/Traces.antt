@@ -1,6 +1,7 @@
 -- What holds of every trace, of whatever run.
 use Rattle.std.proofs.Common.{◌≡◌, ℕ, suc, ◌<◌, ◌≤◌, Bool, true, false, cond, ◌&&◌, ◌||◌, eqb, ◌⊎◌, List, [], ◌∷◌, length, Some, None, Option, sym, refl, ap, ◌∙◌, subst, inl, inr, arith}
-use Rattle.std.proofs.lemmas.Bool.{cases_eq, cases_Bool, eq-eqb, ne_eqb, eqb-true, cond-true, cond-false}
+use Rattle.std.proofs.lemmas.Bool.{cases_eq, cases_Bool, eq-eqb, ne_eqb, eqb-true, cond-true, cond-false, or_right, and_right}
+use Rattle.std.proofs.lemmas.Option.{same_Some}
 use Rattle.tables.specs.declared.reply.Answer.{Answer}
 use Rattle.tables.specs.declared.reply.Request.{Request}
 use Rattle.law.specs.Trace.{Act, Entry, Trace}
@@ -17,20 +18,6 @@ when Q b t u x y e f g =
       | inr n ↦ subst Q (sym (cond-false b x y (e ∙ ne_eqb t u n))) (g n)
     ]
 
--- a choice by any test
-pub either_way : {A : Type 0} (Q : A → Type 0) (b : Bool) (x y : A) → (b ≡ true → Q x) → (b ≡ false → Q y) → Q (cond b x y)
-either_way Q true x y f g = f refl
-either_way Q false x y f g = g refl
-
-pub none_some : {A : Type 0} {a : A} → None ≡ Some a → ⊥
-none_some e = cc
-
-pub some_same : {A : Type 0} {a b : A} → Some a ≡ Some b → a ≡ b
-some_same e = cc
-
-pub true_false : true ≡ false → ⊥
-true_false e = cc
-
 pub known_or : (o : Option ℕ) → (o ≡ None) ⊎ Known o
 known_or None = inl refl
 known_or (Some m) = inr (m, refl)
@@ -40,15 +27,15 @@ earlier_first a b e = (e.0, e.2)
 
 -- the time of a first entry, once it is known, stays
 pub first_known : (o : Option ℕ) (n : ℕ) → Known o → Some (first o n) ≡ o
-first_known None n k = absurd (none_some k.1)
+first_known None n k = cc k.1
 first_known (Some m) n k = refl
 
 pub first_new : (o : Option ℕ) (n : ℕ) → o ≡ None → Some (first o n) ≡ Some n
 first_new None n e = refl
-first_new (Some m) n e = absurd (none_some (sym e))
+first_new (Some m) n e = cc
 
 pub is_some : (o : Option ℕ) (t : ℕ) → is o t ≡ true → o ≡ Some t
-is_some None t e = absurd (true_false (sym e))
+is_some None t e = cc
 is_some (Some u) t e = ap Some (eqb-true u t e)
 
 -- one more element of a list
@@ -71,29 +58,21 @@ pub among_in : (x : ℕ) (xs : List ℕ) → In x xs → among x xs ≡ true
 among_in x [] h = absurd h
 among_in x (y ∷ ys) (inl h) = ap (λ (b : Bool). b || among x ys) (eq-eqb x y h)
 among_in x (y ∷ ys) (inr h) = or_right (eqb x y) (among x ys) (among_in x ys h)
-  where
-    or_right : (a b : Bool) → b ≡ true → (a || b) ≡ true
-    or_right true b e = refl
-    or_right false b e = e
 
 -- the time of a first entry, or of one that is new at the time k
 later : (b : Bool) (o : Option ℕ) (k m : ℕ) → ((n : ℕ) → o ≡ Some n → n < k) → cond b (Some (first o k)) o ≡ Some m → m < suc k
-later true None k m up e = let q : k ≡ m = some_same e in omega arith
-later true (Some n) k m up e = let q : n ≡ m = some_same e in let i = up n refl in omega arith
+later true None k m up e = let q : k ≡ m = cc in omega arith
+later true (Some n) k m up e = let q : n ≡ m = cc in let i = up n refl in omega arith
 later false o k m up e = let i = up m e in omega arith
-
-and_false : (a b : Bool) → b ≡ false → (a && b) ≡ false
-and_false true b e = e
-and_false false b e = refl
 
 module _ {K : Type 0} where
   -- transactions that are not begun have no entries
   pub whose_below : (j : Trace K) (p t : ℕ) → whose j p ≡ Some t → t < count j
-  whose_below [] p t h = absurd (none_some h)
+  whose_below [] p t h = cc
   whose_below (l ∷ j) p t h = go (λ e. whose_below j p t e) (begins l.act) (eqb l.process p) h
     where
       go : (whose j p ≡ Some t → t < count j) → (a b : Bool) → cond (a && b) (Some (count j)) (whose j p) ≡ Some t → t < cond a (suc (count j)) (count j)
-      go up true true e = let q : count j ≡ t = some_same e in omega arith
+      go up true true e = let q : count j ≡ t = cc in omega arith
       go up true false e = let q = up e in omega arith
       go up false b e = up e
 
@@ -114,13 +93,13 @@ module _ {K : Type 0} where
   pub unborn_at : (f : Act K → Bool) (j : Trace K) (t : ℕ) → count j ≤ t → first_at f j t ≡ None
   unborn_at f [] t h = refl
   unborn_at f (l ∷ j) t h =
-      cond-false (f l.act && belongs l j t) _ _ (and_false (f l.act) (belongs l j t) (not_begun l j t h))
+      cond-false (f l.act && belongs l j t) _ _ (and_right (f l.act) (belongs l j t) (not_begun l j t h))
       ∙ unborn_at f j t (let k = count_grows l j in omega arith)
 
   pub unborn_certified : (j : Trace K) (t : ℕ) → count j ≤ t → certified_at j t ≡ None
   unborn_certified [] t h = refl
   unborn_certified (l ∷ j) t h =
-      cond-false (certifies (desk j l.process) l.act && belongs l j t) _ _ (and_false (certifies (desk j l.process) l.act) (belongs l j t) (not_begun l j t h))
+      cond-false (certifies (desk j l.process) l.act && belongs l j t) _ _ (and_right (certifies (desk j l.process) l.act) (belongs l j t) (not_begun l j t h))
       ∙ unborn_certified j t (let k = count_grows l j in omega arith)
 
   pub unborn_requests : (j : Trace K) (t : ℕ) → count j ≤ t → requests j t ≡ []
@@ -141,11 +120,11 @@ module _ {K : Type 0} where
 
   -- times are those of entries on record
   pub first_before : (f : Act K → Bool) (j : Trace K) (t m : ℕ) → first_at f j t ≡ Some m → m < length j
-  first_before f [] t m h = absurd (none_some h)
+  first_before f [] t m h = cc
   first_before f (l ∷ j) t m h = later (f l.act && belongs l j t) (first_at f j t) (length j) m (λ n e. first_before f j t n e) h
 
   pub certified_before : (j : Trace K) (t m : ℕ) → certified_at j t ≡ Some m → m < length j
-  certified_before [] t m h = absurd (none_some h)
+  certified_before [] t m h = cc
   certified_before (l ∷ j) t m h =
       later (certifies (desk j l.process) l.act && belongs l j t) (certified_at j t) (length j) m (λ n e. certified_before j t n e) h
 
@@ -158,8 +137,8 @@ module _ {K : Type 0} where
       ]
     where
       go : (o : Option ℕ) → hold j o ≡ Some h → h.at < length (l ∷ j)
-      go None e = absurd (none_some e)
-      go (Some x) e = let k = ap (λ (z : Hold). z.at) (some_same e) in omega arith
+      go None e = cc
+      go (Some x) e = let k = ap (λ (z : Hold). z.at) (same_Some _ _ e) in omega arith
 
   pub reading_before : (j : Trace K) (t : ℕ) (r : Reading K) → In r (readings j t) → r.at < length j
   reading_before [] t r i = absurd i
@@ -170,13 +149,13 @@ module _ {K : Type 0} where
       ]
     where
       at_end : (o : Option ℕ) (f : Option Found) (v : K) → Rattle.law.specs.Ledger.reading_of j o f v ≡ Some r → r.at < length (l ∷ j)
-      at_end None f v e = absurd (none_some e)
-      at_end (Some x) None v e = absurd (none_some e)
-      at_end (Some x) (Some f) v e = let k = ap (λ (z : Reading K). z.at) (some_same e) in omega arith
+      at_end None f v e = cc
+      at_end (Some x) None v e = cc
+      at_end (Some x) (Some f) v e = let k = ap (λ (z : Reading K). z.at) (same_Some _ _ e) in omega arith
 
       go : (d : Desk K) (o : Option K) → reading j (whose j l.process) d o ≡ Some r → r.at < length (l ∷ j)
-      go d None e = absurd (none_some e)
-      go free (Some v) e = absurd (none_some e)
+      go d None e = cc
+      go free (Some v) e = cc
       go (asked q n f) (Some v) e = at_end (of_request q).reads (finds j (whose j l.process) (of_request q).reads f) v e
 
   -- what was taken hold of
@@ -189,12 +168,12 @@ module _ {K : Type 0} where
       ]
     where
       go : (o : Option ℕ) (b : Bool) → hold j o ≡ Some h → b ≡ true → In h.object (push o b (taken j t))
-      go None b e q = absurd (none_some e)
-      go (Some x) true e q = inl (ap (λ (z : Hold). z.object) (sym (some_same e)))
-      go (Some x) false e q = absurd (true_false (sym q))
+      go None b e q = cc
+      go (Some x) true e q = inl (ap (λ (z : Hold). z.object) (sym (same_Some _ _ e)))
+      go (Some x) false e q = cc
 
   pub taken_held : (j : Trace K) (t x : ℕ) → among x (taken j t) ≡ true → (h : Hold) × In h (holds j t) × (h.object ≡ x)
-  taken_held [] t x i = absurd (true_false (sym i))
+  taken_held [] t x i = cc
   taken_held (l ∷ j) t x i = go (λ e. taken_held j t x e) (effect_of l.act).takes (belongs l j t) i
     where
       kept : (o : Option Hold) (b : Bool) → (h : Hold) × In h (holds j t) × (h.object ≡ x) → (h : Hold) × In h (push o b (holds j t)) × (h.object ≡ x)

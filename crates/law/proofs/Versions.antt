@@ -1,6 +1,6 @@
 -- The versions of each object on record, and those of the protocol.
 use Rattle.std.proofs.Common.{◌≡◌, ℕ, zero, suc, ◌<◌, ◌≤◌, Bool, true, false, cond, ◌&&◌, ◌||◌, eqb, ◌⊎◌, List, [], ◌∷◌, Some, None, Option, sym, refl, ap, ◌∙◌, subst, inl, inr, arith}
-use Rattle.std.proofs.lemmas.Bool.{cases_eq, eq-eqb, ne_eqb, cond-true, cond-false}
+use Rattle.std.proofs.lemmas.Bool.{cases_eq, eq-eqb, ne_eqb, cond-true, cond-false, or_right}
 use Rattle.protocol.specs.Table.{put}
 use Rattle.protocol.specs.History.{Access, Mark, writes}
 use Rattle.protocol.specs.History.Access.{ov}
@@ -9,7 +9,8 @@ use Rattle.protocol.proofs.Updates.{put_same, put_other, put_when}
 use Rattle.law.specs.Ledger.{Maker, first, among, latest}
 use Rattle.law.specs.Ledger.Maker.{opening, by}
 use Rattle.law.specs.Law.{Known}
-use Rattle.law.proofs.Traces.{when, true_false, known_or}
+use Rattle.std.proofs.lemmas.Bool.Decides.{nat_tests}
+use Rattle.law.proofs.Traces.{when, known_or}
 use Rattle.law.proofs.Times.{noted_was}
 
 -- the maker of a version of the protocol
@@ -60,8 +61,7 @@ pub record Versions (makers taken : ℕ → List ℕ) (stored_at : ℕ → ℕ �
   pub storers : (t x : ℕ) → Known (stored_at t x) → sealed t ≡ true
 
 eqb_turn : (x y : ℕ) → eqb x y ≡ eqb y x
-eqb_turn x y =
-    elim (cases_eq x y) [ inl e ↦ eq-eqb x y e ∙ sym (eq-eqb y x (sym e)) | inr e ↦ ne_eqb x y e ∙ sym (ne_eqb y x (λ q. e (sym q))) ]
+eqb_turn x y = grind (arith, nat_tests)
 
 module _ (makers taken : ℕ → List ℕ) (stored_at : ℕ → ℕ → Option ℕ) (sealed : ℕ → Bool) (over : ℕ → ℕ → Mark) (maker latest stored : ℕ → ℕ) (log : ℕ → List Access)
     (c : Versions makers taken stored_at sealed over maker latest stored log) (t : ℕ) where
@@ -104,10 +104,6 @@ module _ (makers taken : ℕ → List ℕ) (stored_at : ℕ → ℕ → Option �
       where
         both : (y u : ℕ) → among y (taken u) ≡ writes (log t) y → (eqb y x || among y (taken u)) ≡ (eqb x y || writes (log t) y)
         both y u e = ap (λ (k : Bool). k || among y (taken u)) (eqb_turn y x) ∙ ap (λ (k : Bool). eqb x y || k) e
-
-        or_right : (k l : Bool) → l ≡ true → (k || l) ≡ true
-        or_right true l e = refl
-        or_right false l e = e
 
         more : (y u : ℕ) → among y (taken u) ≡ true → among y (cond (b u) (x ∷ taken u) (taken u)) ≡ true
         more y u e =
@@ -188,7 +184,7 @@ module _ (makers taken : ℕ → List ℕ) (stored_at : ℕ → ℕ → Option �
             omega arith,
             subst (Due taken stored_at x) (sym (put_same maker (suc n) t (suc n) refl)) (
               c.wrote t x ∙ e,
-              elim (known_or (stored_at t x)) [ inl d ↦ d | inr d ↦ absurd (true_false (sym (c.storers t x d) ∙ open')) ],
+              elim (known_or (stored_at t x)) [ inl d ↦ d | inr d ↦ cc (sym (c.storers t x d) ∙ open') ],
             ),
           )
       coming x false e =
