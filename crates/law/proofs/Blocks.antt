@@ -82,8 +82,7 @@ module _ {K : Type 0} where
   write_done x v (suc n) f l = refl
 
   write_first : (x : ℕ) (v : K) (n : ℕ) (f : Option Found) → n ≡ 0 → todo (asked (Write x v) n f) ≡ Write x v ∷ []
-  write_first x v zero f l = refl
-  write_first x v (suc n) f l = absurd (omega arith)
+  write_first x v a2 f l = cc
 
   module _ (P : ℕ) (start : ℕ → K) (b : ℕ → ℕ) (j : Trace K) (es : List (Event K)) (lawful : Lawful P start b es) (c : CoreOf start b j es) (p : ℕ)
       (who : whose j p ≡ Some ((history es).current p)) (st : StandingOf start b j es p) where
@@ -99,7 +98,7 @@ module _ {K : Type 0} where
 
     -- what is in hand of a read
     fetched_is : (x n : ℕ) (f : Option Found) → desk j p ≡ asked (Read x) n f → (g : Found) (m : ℕ) → desk j p ≡ asked (Read x) m (Some g) → f ≡ Some g
-    fetched_is x n f q g m r = let k : asked (Read x) n f ≡ asked (Read x) m (Some g) = sym q ∙ r in cc
+    fetched_is x n f q g m r = cc
 
     -- what the first step of a read finds, in the place where the protocol keeps what was fetched
     looks : (x n : ℕ) (v : K) (f : Option Found) → desk j p ≡ asked (Read x) n f → n ≡ 0 → May P (state start b es) (look p x v)

@@ -125,7 +125,7 @@ module _ {K : Type 0} where
     bel u = is (whose j p) u
 
     own_is : (u : ℕ) → bel u ≡ eqb ((history es).current p) u
-    own_is u = ap (λ (o : Option ℕ). is o u) who
+    own_is u = cc
 
     abbrev line : Stepped K → Trace K
     line z = entry p (made z) ∷ j
@@ -214,7 +214,7 @@ module _ {K : Type 0} where
       the_reading = record { object = x; found = first f (sight j (whose j p) x); content = v; at = length j }
 
       reading_is : reading j (whose j p) (desk j p) (Some v) ≡ Some the_reading
-      reading_is = ap (λ (d : Desk K). reading j (whose j p) d (Some v)) q
+      reading_is = cc
 
       -- from the version that the protocol has fetched
       pub core_answer : (st : ℕ) → first f (sight j (whose j p) x) ≡ version (name (history es).maker ((history es).fetched p)) → (history es).fetched p ≤ (history es).seals

@@ -363,7 +363,7 @@ module _ {K : Type 0} where
   module _ (P : ℕ) (start : ℕ → K) (b : ℕ → ℕ) (j : Trace K) (es : List (Event K)) (lawful : Lawful P start b es) (c : Matches start b j es) (p : ℕ) (who : whose j p ≡ Some ((history es).current p))
       (in' : (state start b es).phase p ≡ out → ⊥) where
     own_is : (u : ℕ) → is (whose j p) u ≡ eqb ((history es).current p) u
-    own_is u = ap (λ (o : Option ℕ). is o u) who
+    own_is u = cc
 
     desk_is : (z : Stepped K) (d : Desk K) → desk j p ≡ d → desk (entry p (made z) ∷ j) p ≡ desk_on j (whose j p) d z.answer
     desk_is z d q =
@@ -433,7 +433,7 @@ module _ {K : Type 0} where
         in_certification e = differ certifying out tt (sym (put_same (state start b es).phase p certifying p refl) ∙ e)
 
         now_certified : (u : ℕ) → certified_at (entry p (made z) ∷ j) u ≡ cond (is (whose j p) u) (Some (first (certified_at j u) (length j))) (certified_at j u)
-        now_certified u = ap (λ (d : Desk K). cond (certifies d (made z) && is (whose j p) u) (Some (first (certified_at j u) (length j))) (certified_at j u)) q
+        now_certified u = cc
 
         here : Leaves p fs (certify p ∷ es) → (u x : ℕ) (g : Option Found) → ((state start b (fs ++ certify p ∷ es)).phase u ≡ out → ⊥) → desk (entry p (made z) ∷ j) u ≡ asked Commit x g → (p ≡ u) ⊎ (p ≡ u → ⊥)
             → ((state start b (fs ++ certify p ∷ es)).phase u ≡ running) ⊎ Known (certified_at (entry p (made z) ∷ j) ((history (fs ++ certify p ∷ es)).current u))

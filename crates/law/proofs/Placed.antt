@@ -49,10 +49,10 @@ module _ {K : Type 0} where
     -- a request of the running transaction of p
     module _ (who : whose j p ≡ Some ((history es).current p)) (run : (state start b es).phase p ≡ running) (idle : desk j p ≡ free) where
       in_run : (state start b es).phase p ≡ out → ⊥
-      in_run e = differ running out tt (sym run ∙ e)
+      in_run e = cc
 
       own_is : (u : ℕ) → is (whose j p) u ≡ eqb ((history es).current p) u
-      own_is u = ap (λ (o : Option ℕ). is o u) who
+      own_is u = cc
 
       core_ask : (r : Request K) → Core start (with_request j (whose j p) r) (played start b es)
       core_ask r =

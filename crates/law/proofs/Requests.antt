@@ -59,7 +59,7 @@ module _ {K : Type 0} where
       (c : Ops readings requests operations sealed) (t : ℕ) where
     -- a sealed transaction is another than one that is not
     not_sealed : sealed t ≡ false → (u : ℕ) → sealed u ≡ true → t ≡ u → ⊥
-    not_sealed o u h e = true≢false (sym h ∙ ap sealed (sym e) ∙ o)
+    not_sealed o u h e = cc
 
     still : (d : Operation K) → sealed t ≡ false → (u : ℕ) → sealed u ≡ true → requests u ≡ Commit ∷ started (put operations t (d ∷ operations t) u)
     still d o u h =

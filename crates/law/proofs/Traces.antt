@@ -27,12 +27,10 @@ earlier_first a b e = (e.0, e.2)
 
 -- the time of a first entry, once it is known, stays
 pub first_known : (o : Option ℕ) (n : ℕ) → Known o → Some (first o n) ≡ o
-first_known None n k = cc k.1
-first_known (Some m) n k = refl
+first_known a0 n k = cc
 
 pub first_new : (o : Option ℕ) (n : ℕ) → o ≡ None → Some (first o n) ≡ Some n
-first_new None n e = refl
-first_new (Some m) n e = cc
+first_new a0 n e = cc
 
 pub is_some : (o : Option ℕ) (t : ℕ) → is o t ≡ true → o ≡ Some t
 is_some None t e = cc

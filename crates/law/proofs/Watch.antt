@@ -64,7 +64,7 @@ module _ {K : Type 0} (P : ℕ) (start : ℕ → K) (b : ℕ → ℕ) (j : Trace
   HoldingOf k fs = Holding (state start b fs).phase (state start b fs).held (history fs).current (taken k) (stored_at k) (freed_at k)
 
   own_is : (u : ℕ) → is (whose j p) u ≡ eqb ((history es).current p) u
-  own_is u = ap (λ (o : Option ℕ). is o u) who
+  own_is u = cc
 
   -- p becomes the holder of x
   takes : (x : ℕ) (v : K) → (state start b es).phase p ≡ running
