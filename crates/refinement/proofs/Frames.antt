@@ -178,9 +178,7 @@ abbrev sized_by : ℕ → ℕ → ℕ → ℕ → ℕ → Bool
 sized_by o p r w h = numbers_ok o p && eqb r (p * 32) && eqb w (p * 16) && eqb h p
 
 pub sizes_kept : {K : Type 0} (t u : Tables K) (p : ℕ) → Frame t u p → sizes_ok t ≡ true → sizes_ok u ≡ true
-sizes_kept t u p f h =
-    let e : sizes_ok u ≡ sizes_ok t = λ i. sized_by (f.objects i) (f.processes i) (f.reads i) (f.writes i) (f.hands i) in
-    e ∙ h
+sizes_kept t u p f h = cc
 
 pub objects_kept : {K : Type 0} (e : K) (os : List (Object K)) (n x : ℕ) (o : Object K) → ObjectsOk e os n → object_ok o n ≡ true → ObjectsOk e (set os x o) n
 objects_kept e os n x o ok h y l =

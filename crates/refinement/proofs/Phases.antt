@@ -1,5 +1,5 @@
 -- Every step and every placing keeps a memory good.
-use Rattle.std.proofs.Common.{◌≡◌, ℕ, ◌+◌, ◌-◌, ◌^◌, ◌<◌, ◌≤◌, min, max, Bool, true, false, cond, ◌&&◌, ◌||◌, eqb, ltb, leb, ◌⊎◌, List, length, Some, None, Option, Result, sym, refl, subst, inl, inr, arith}
+use Rattle.std.proofs.Common.{◌≡◌, ℕ, ◌+◌, ◌-◌, ◌^◌, ◌<◌, ◌≤◌, min, max, Bool, true, false, cond, ◌&&◌, ◌||◌, eqb, ltb, leb, ◌⊎◌, List, length, Some, None, Option, Result, sym, refl, subst, inr, arith}
 use Rattle.std.proofs.lemmas.Bool.{and_parts, and_from, leb-true, le-leb, ltb-true, eqb-false, cond_both}
 use Rattle.std.proofs.lemmas.Bool.Decides.{nat_tests}
 use Rattle.std.proofs.lemmas.List.{length-set}
@@ -181,12 +181,10 @@ module _ {K : Type 0} (e : K) (t : Tables K) (p : ℕ) (g : Good e t) (l : p < l
       )))
     where
       more : (n i : ℕ) → eqb n 0 ≡ false → (n ≡ 0) ⊎ (i < n) → eqb (i + 1) n ≡ false → i + 1 < n
-      more n i d (inl z) m = grind (arith, nat_tests)
-      more n i d (inr z) m = grind (arith, nat_tests)
+      more n i d h m = grind (arith, nat_tests)
 
       fewer : (n i s : ℕ) → eqb n 0 ≡ false → (n ≡ 0) ⊎ (i < n) → s + cond (eqb n 0) 1 (n - i) ≤ 49 → s + 1 + cond (eqb n 0) 1 (n - (i + 1)) ≤ 49
-      fewer n i s d (inl z) b = let y = eqb-false n 0 d in absurd (y z)
-      fewer n i s d (inr z) b = let b' : s + (n - i) ≤ 49 = simp d at b in simp d (omega arith)
+      fewer n i s d h b = grind (arith, nat_tests)
 
   commits : (number next : ℕ) → number ≤ 2 ^ 40 → (process_at t p).phase ≡ Certifying next → Good e (commit_step e number t p next).tables
   commits number next ranged q =

@@ -1,6 +1,6 @@
 -- The steps of a read, and snapshot extension, as blocks of events.
 use Rattle.std.proofs.Common.{◌≡◌, ℕ, ◌+◌, ◌*◌, ◌<◌, ◌≤◌, Bool, true, false, cond, eqb, List, [], ◌∷◌, ◌++◌, length, drop, Some, None, Option, sym, refl, ap, ◌∙◌, subst, inl, inr, arith}
-use Rattle.std.proofs.lemmas.Bool.{eqb-true, cases_Bool, not-false}
+use Rattle.std.proofs.lemmas.Bool.{eqb-true, cases_Bool}
 use Rattle.std.proofs.lemmas.Bool.Decides.{nat_tests}
 use Rattle.std.proofs.lemmas.List.{get_or-set_same}
 use Rattle.tables.specs.Lookup.{pair, value_of}
@@ -15,7 +15,7 @@ use Rattle.engine.specs.Look.{foreign, differs}
 use Rattle.protocol.specs.Table.{put}
 use Rattle.protocol.specs.Protocol.{LawfulFrom, State, May, Idle as Rest}
 use Rattle.protocol.specs.Protocol.Held.{nobody}
-use Rattle.protocol.specs.Protocol.Seen.{unseen, saw}
+use Rattle.protocol.specs.Protocol.Seen.{saw}
 use Rattle.protocol.specs.Protocol.Hand.{full}
 use Rattle.protocol.specs.Protocol.Event.{look, extend, answer, own}
 use Rattle.protocol.proofs.Updates.{put_same}
@@ -27,7 +27,7 @@ use Rattle.refinement.proofs.Changes.{sizes_facts}
 use Rattle.refinement.proofs.Rows.{Row, row}
 use Rattle.refinement.proofs.Blocks.{acted_all, shows}
 use Rattle.refinement.proofs.Placing.{Shown, live_at, pending_at, rest_covers, rests_on}
-use Rattle.refinement.proofs.View.{gone, pending_of, SeenAs, Rests, LiveAs, RowAs, View, same_to, held_mine, held_nobody}
+use Rattle.refinement.proofs.View.{gone, pending_of, SeenAs, Rests, LiveAs, RowAs, View, same_to, held_mine}
 
 -- look-ups in a set with one pair more
 pub value_push : {V : Type 0} (xs : List (Slot V)) (x y : ℕ) (u : V) → value_of xs x ≡ None → value_of (xs ++ pair x u ∷ []) y ≡ cond (eqb x y) (Some u) (value_of xs y)
@@ -44,8 +44,7 @@ value_push (s ∷ ss) x y u h =
     ]
   where
     some_none : {V : Type 0} (v : V) (o : Option V) (b : Bool) → b ≡ true → cond b (Some v) o ≡ None → ◌≡◌ {A = ℕ} 0 1
-    some_none v o true q h = cc
-    some_none v o false q h = cc
+    some_none v o b q h = cc
 
     other : (a x y : ℕ) → eqb a x ≡ false → eqb a y ≡ true → eqb x y ≡ false
     other a x y n m = grind (arith, nat_tests)
@@ -78,14 +77,10 @@ module _ {K : Type 0} (e : K) (number : ℕ → ℕ) (t : Tables K) (s : State K
   module _ (x : ℕ) (a : Rests (process_at t p) (read_set t p) (row s p)) (none : value_of (write_set t p) x ≡ None) (q : (process_at t p).phase ≡ Reading x)
       (clear : foreign (object_at e t x).holder p ≡ false) (fresh : differs (value_of (read_set t p) x) (object_at e t x).stamp ≡ false) where
     nobody_holds : s.held x ≡ nobody
-    nobody_holds =
-        held_nobody e number t s v p x clear (ap (λ (z : List (Slot K)). value_of z x) (pending_at e number t s p g v l (Reading x) q) ∙ none)
+    nobody_holds = grind (arith, nat_tests)
 
     pend : (r : Process) → r.phase ≡ Idle → r.writes ≡ (process_at t p).writes → drop (gone r.phase) (window t.writes (p * 16) r.writes) ≡ pending_of t p
-    pend r rp wr =
-        ap (λ (f : Phase). drop (gone f) (window t.writes (p * 16) r.writes)) rp
-        ∙ ap (λ (n : ℕ). window t.writes (p * 16) n) wr
-        ∙ sym (pending_at e number t s p g v l (Reading x) q)
+    pend r rp wr = cc
 
     look_may : May (length t.processes) s (look p x (object_at e t x).content)
     look_may = (rest_of a, nobody_holds, same_to e number t s v p x (a.seen x) fresh, v.contents x)
@@ -104,8 +99,7 @@ module _ {K : Type 0} (e : K) (number : ℕ → ℕ) (t : Tables K) (s : State K
 
     -- what was seen is the stamp that was found
     present : (u : ℕ) (o : Option ℕ) → o ≡ Some u → differs o (object_at e t x).stamp ≡ false → u ≡ (object_at e t x).stamp
-    present u None n d = cc
-    present u (Some k) n d = let z : k ≡ u = cc in sym z ∙ eqb-true k (object_at e t x).stamp (not-false (eqb k (object_at e t x).stamp) d)
+    present u o n d = grind (arith, nat_tests)
 
     -- x is in the read set already
     pub in_already : (u : ℕ) → value_of (read_set t p) x ≡ Some u → In-set (read_set t p)
@@ -160,12 +154,7 @@ module _ {K : Type 0} (e : K) (number : ℕ → ℕ) (t : Tables K) (s : State K
         )
       where
         unread : (y u : ℕ) (w : K) (n : ℕ) → n ≡ 0 → s.seen p y ≡ saw u w → ⊥
-        unread y u w n z h =
-            let b : s.seen p y ≡ unseen = empty_set (process_at t p).reads none_read (a.seen y) in
-            cc
-          where
-            empty_set : (m : ℕ) → m ≡ 0 → SeenAs (value_of (window t.reads (p * 32) m) y) (s.seen p y) → s.seen p y ≡ unseen
-            empty_set m z k = subst (λ (i : ℕ). SeenAs (value_of (window t.reads (p * 32) i) y) (s.seen p y)) z k
+        unread y u w n z h = grind (arith, nat_tests)
 
     -- the row once the read is answered
     now_row : (r : Process) (rs : List (Slot ℕ)) → In-set rs → r.clock ≡ (process_at t p).clock → (object_at e t x).stamp ≤ (process_at t p).clock

@@ -26,8 +26,7 @@ apart [] = true
 apart (x ∷ xs) = not (among x xs) && apart xs
 
 pub none_of : {V : Type 0} (o : Option V) → is_some o ≡ false → o ≡ None
-none_of None h = refl
-none_of (Some v) h = cc
+none_of o h = grind (arith, nat_tests)
 
 -- an object with no place has no value
 pub no_value : {V : Type 0} (xs : List (Slot V)) (x : ℕ) → place_of xs x 0 ≡ None → value_of xs x ≡ None
@@ -45,8 +44,7 @@ below_of_named e os n (s ∷ ss) h =
     and_from (ltb s.object (length os)) (below (length os) (names ss)) b.0 (below_of_named e os n ss a.1)
 
 pub named_from : {K : Type 0} (e : K) (os : List (Object K)) (n x : ℕ) → ObjectsOk e os n → x < length os → named_ok e os n x ≡ true
-named_from e os n x ok h =
-    and_from (ltb x (length os)) (object_ok (get_or os x (blank_object e)) n) (lt-ltb x (length os) h) (ok x h)
+named_from e os n x ok h = grind (arith, nat_tests)
 
 pub named_of_below : {K V : Type 0} (e : K) (os : List (Object K)) (n : ℕ) (xs : List (Slot V)) → ObjectsOk e os n → below (length os) (names xs) ≡ true → all_named e os n xs ≡ true
 named_of_below e os n [] ok h = refl

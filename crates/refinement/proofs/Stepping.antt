@@ -1,6 +1,7 @@
 -- Every step is a lawful block of events of the protocol, by its phase and its reply.
 use Rattle.std.proofs.Common.{◌≡◌, ℕ, ◌+◌, ◌*◌, ◌^◌, ◌<◌, ◌≤◌, min, max, Bool, true, false, cond, ◌&&◌, ◌||◌, eqb, ltb, leb, ◌⊎◌, List, [], ◌∷◌, length, Some, None, Ok, Option, Result, sym, refl, ap, ◌∙◌, subst, inl, inr, arith}
-use Rattle.std.proofs.lemmas.Bool.{cases_Bool, eqb-true, eqb-false, and_parts, or_parts, eq-eqb, cond_both, leb-true, leb-false, ltb-true, ltb-false}
+use Rattle.std.proofs.lemmas.Bool.{cases_Bool, eqb-true, eqb-false, and_parts, or_parts, eq-eqb, cond_both, leb-false, ltb-true, ltb-false}
+use Rattle.std.proofs.lemmas.Bool.Decides.{nat_tests}
 use Rattle.tables.specs.Lookup.{pair, value_of, place_of}
 use Rattle.tables.specs.Tables.{Tables, process_at, object_at, hand_at, read_at, write_at, read_set, write_set, with_process, with_object, with_hand, with_read, with_write}
 use Rattle.tables.specs.declared.map.Slot.{Slot}
@@ -67,25 +68,10 @@ Looking (Storing next) = ⊥
 Looking (Freeing next x) = ⊥
 
 unstopped : (f : Phase) → Looking f → stopped_by f ≡ None
-unstopped Idle l = refl
-unstopped (Beginning next least) l = refl
-unstopped (Reading x) l = refl
-unstopped (Writing x) l = refl
-unstopped (Extending x to next a) l = refl
-unstopped (Certifying next) l = refl
-unstopped (Storing next) l = refl
-unstopped (Freeing next x) l = absurd l
+unstopped f l = grind (arith, nat_tests)
 
 no_begin : {K : Type 0} (h : K) (f : Phase) (k : Request K) → Looking f → Asks h f k → k ≡ ask.Begin → ⊥
-no_begin h Idle k l a e = l
-no_begin h (Beginning next least) k l a e = l
-no_begin h (Reading x) k l a e = cc
-no_begin h (Writing x) k l a e = cc
-no_begin h (Extending x to next access.Read) k l a e = cc
-no_begin h (Extending x to next access.Write) k l a e = cc
-no_begin h (Certifying next) k l a e = cc
-no_begin h (Storing next) k l a e = l
-no_begin h (Freeing next x) k l a e = l
+no_begin h f k l a e = grind (arith, nat_tests)
 
 -- a request that goes on to free asks for the same
 asks_freeing : {K : Type 0} (h : K) (i j : ℕ) (x : Ending) (k : Request K) → Asks h (Freeing i x) k → Asks h (Freeing j x) k
@@ -141,11 +127,7 @@ module _ {K : Type 0} (e : K) (number : ℕ → ℕ) (t : Tables K) (s : State K
 
   -- the stamp and the clock
   current_cases : (st ck n : ℕ) → (leb st ck || eqb n 0) ≡ true → (st ≤ ck) ⊎ ((ck < st) × (n ≡ 0))
-  current_cases st ck n h =
-      elim (cases_Bool (leb st ck)) [
-        | inl b ↦ inl (leb-true st ck b)
-        | inr b ↦ inr (leb-false st ck b, eqb-true n 0 (simp b at h))
-      ]
+  current_cases st ck n h = grind (arith, nat_tests)
 
   -- a stamp that needs an extension
   later_is : (st ck n : ℕ) → (leb st ck || eqb n 0) ≡ false → ck < st
@@ -279,11 +261,7 @@ module _ {K : Type 0} (e : K) (number : ℕ → ℕ) (t : Tables K) (s : State K
           (λ j b. rw b (Block.reads_extended x _ _ _ _))
         where
           already : (y : ℕ) → value_of (read_set t p) y ≡ cond (eqb x y) (Some to) (value_of (read_set t p) y)
-          already y =
-              elim (cases_Bool (eqb x y)) [
-                | inl c ↦ (let n : x ≡ y = eqb-true x y c in simp c (ap (value_of (read_set t p)) (sym n) ∙ k ∙ ap Some (same u k)))
-                | inr c ↦ simp c
-              ]
+          already y = grind (arith, nat_tests)
       finished same clear fresh last None k =
           let few = room k refl in
           let size = (sizes_facts t g.sizes).reads in
@@ -371,8 +349,7 @@ module _ {K B : Type 0} (e : K) (number : B → ℕ → ℕ) (moved : B → ℕ 
       (seal_shown e (number b) t s p g v l live i st (number (moved b p st)) q a last (omega arith) (omega arith) (λ n. rises b p st n)) (λ k c. (rw c (Block.seals _ _ _), c))
     where
       stamp_is : (c : Bool) → cond c (Some (1 + max (process_at t p).clock (number b p))) None ≡ Some st → 1 + max (process_at t p).clock (number b p) ≡ st
-      stamp_is true k = cc
-      stamp_is false k = cc
+      stamp_is c k = grind (arith, nat_tests)
   seals s i v q a last None h = stops e (number b) t s p g v l live (Certifying i) conflict.Spent tt a.phase (inr a.phase) (ap gone q)
 
   -- a step of a commit, once certification has begun
