@@ -1,6 +1,6 @@
 -- What is on record of a run agrees with what the protocol has of it, and each event that a step shows keeps it so.
 use Rattle.std.proofs.Common.{◌≡◌, ℕ, suc, ◌<◌, ◌≤◌, Bool, true, false, cond, not, T, eqb, ◌⊎◌, List, ◌∷◌, length, Some, None, Option, sym, refl, ap, ◌∙◌, subst, inl, inr, arith}
-use Rattle.std.proofs.lemmas.Bool.{cases_eq, cases_Bool, cond-true, cond-false}
+use Rattle.std.proofs.lemmas.Bool.{cases_eq, cases_Bool, cond-true, cond-false, true≢false}
 use Rattle.tables.specs.declared.reply.Answer.TheVariants as answer_is
 use Rattle.tables.specs.declared.reply.Effect.TheVariants.{Nothing, Took, Sealed, Stored}
 use Rattle.tables.specs.declared.reply.Request.{Request}
@@ -23,7 +23,7 @@ use Rattle.protocol.proofs.Invariant.{Live, tag, differ, unheld, one_holder}
 use Rattle.protocol.proofs.Laws.{all}
 use Rattle.law.specs.Trace.{Trace, entry}
 use Rattle.law.specs.Trace.Act.{made}
-use Rattle.law.specs.Ledger.{Maker, Found, Reading, Hold, Desk, first, is, among, push, whose, ended_at, placed_at, sealed_at, begun_at, stored_at, makers, taken, readings, holds, requests, desk, reading, sight, wrote, latest}
+use Rattle.law.specs.Ledger.{Desk, Maker, Found, Reading, Hold, first, is, among, push, whose, ended_at, placed_at, sealed_at, begun_at, stored_at, makers, taken, readings, holds, requests, desk, reading, sight, wrote, latest}
 use Rattle.law.specs.Ledger.Found.{version, pending}
 use Rattle.law.specs.Ledger.Desk.{asked}
 use Rattle.protocol.specs.History as events
@@ -125,7 +125,7 @@ module _ {K : Type 0} where
     bel u = is (whose j p) u
 
     own_is : (u : ℕ) → bel u ≡ eqb ((history es).current p) u
-    own_is u = cc
+    own_is u = ap (λ (o : Option ℕ). is o u) who
 
     abbrev line : Stepped K → Trace K
     line z = entry p (made z) ∷ j
@@ -152,12 +152,10 @@ module _ {K : Type 0} where
         clash live (ap (state start b es).phase k)
       where
         live_in : Live (state start b es).phase p → (state start b es).phase p ≡ out → ⊥
-        live_in (inl r) o = differ running out tt (sym r ∙ o)
-        live_in (inr r) o = differ certifying out tt (sym r ∙ o)
+        live_in live o = grind arith
 
         clash : Live (state start b es).phase p → (state start b es).phase q ≡ (state start b es).phase p → ⊥
-        clash (inl r) n = differ (sealing u) running tt (sym e ∙ n ∙ r)
-        clash (inr r) n = differ (sealing u) certifying tt (sym e ∙ n ∙ r)
+        clash live n = grind arith
 
     -- whether p's transaction has written x
     writes_held : (x : ℕ) (v : K) → Live (state start b es).phase p → (state start b es).held x ≡ by p v → writes ((history es).log ((history es).current p)) x ≡ true
@@ -214,7 +212,7 @@ module _ {K : Type 0} where
       the_reading = record { object = x; found = first f (sight j (whose j p) x); content = v; at = length j }
 
       reading_is : reading j (whose j p) (desk j p) (Some v) ≡ Some the_reading
-      reading_is = cc
+      reading_is = ap (λ (d : Desk K). reading j (whose j p) d (Some v)) q
 
       -- from the version that the protocol has fetched
       pub core_answer : (st : ℕ) → first f (sight j (whose j p) x) ≡ version (name (history es).maker ((history es).fetched p)) → (history es).fetched p ≤ (history es).seals
@@ -337,7 +335,7 @@ module _ {K : Type 0} where
         unsealed =
             elim (known_or (sealed_at j ((history es).current p))) [
               | inl e ↦ e
-              | inr e ↦ cc (sym (c.seals.known ((history es).current p) e) ∙ open_is (inr cert))
+              | inr e ↦ absurd (true≢false (sym (c.seals.known ((history es).current p) e) ∙ open_is (inr cert)))
             ]
 
         latest' : ℕ → ℕ

@@ -1,7 +1,7 @@
 -- An abort has a reason: another transaction held the object that it names, while both were open.
-use Rattle.std.proofs.Common.{◌≡◌, ℕ, suc, ◌<◌, ◌≤◌, Bool, true, false, cond, ◌&&◌, eqb, ◌⊎◌, List, [], ◌∷◌, length, Some, None, Option, sym, refl, ap, ◌∙◌, subst, inl, inr, arith}
-use Rattle.std.proofs.lemmas.Bool.{cases_eq, eq-eqb, cond-true}
-use Rattle.std.proofs.lemmas.Option.{same_Some}
+use Rattle.std.proofs.Common.{◌≡◌, ℕ, suc, ◌<◌, ◌≤◌, Bool, true, false, cond, ◌&&◌, ◌⊎◌, List, [], ◌∷◌, length, Some, None, Option, sym, refl, ap, ◌∙◌, subst, inl, inr, arith}
+use Rattle.std.proofs.lemmas.Bool.{cases_eq, cond-true}
+use Rattle.std.proofs.lemmas.Option.{none-some}
 use Rattle.tables.specs.declared.reply.Conflict.{Conflict}
 use Rattle.tables.specs.declared.reply.Conflict.TheVariants as conflict
 use Rattle.protocol.specs.Table.{put}
@@ -12,27 +12,17 @@ use Rattle.protocol.specs.History.{history}
 use Rattle.protocol.proofs.Updates.{put_same, put_other, put_is}
 use Rattle.protocol.proofs.Freshness.{FreshOf}
 use Rattle.law.specs.Trace.{Act, Entry, Trace}
-use Rattle.law.specs.Ledger.{first, is, among, count, whose, belongs, first_at, begins as begins_now, placed_at, ended_at, stored_at, freed_at, taken, holds, effect_of, hold}
+use Rattle.law.specs.Ledger.{first, among, count, belongs, first_at, begins as begins_now, placed_at, ended_at, stored_at, freed_at, taken, holds, effect_of, hold}
 use Rattle.law.specs.Law.{Known, OpenAt, HeldAt, Disturbed, Justified}
 use Rattle.law.proofs.Traces.{first_before, hold_before, taken_held, push_keeps}
 
 module _ {K : Type 0} where
   -- a time on record stays, and a new one is the time of the entry
   first_stays : (f : Act K → Bool) (l : Entry K) (j : Trace K) (t m : ℕ) → first_at f j t ≡ Some m → first_at f (l ∷ j) t ≡ Some m
-  first_stays f l j t m h = go (f l.act && belongs l j t) (first_at f j t) h
-    where
-      go : (b : Bool) (o : Option ℕ) → o ≡ Some m → cond b (Some (first o (length j))) o ≡ Some m
-      go true None e = cc
-      go true (Some n) e = e
-      go false o e = e
+  first_stays f l j t m h = grind arith
 
   first_late : (f : Act K → Bool) (l : Entry K) (j : Trace K) (t m : ℕ) → first_at f (l ∷ j) t ≡ Some m → (first_at f j t ≡ Some m) ⊎ (m ≡ length j)
-  first_late f l j t m h = go (f l.act && belongs l j t) (first_at f j t) refl h
-    where
-      go : (b : Bool) (o : Option ℕ) → first_at f j t ≡ o → cond b (Some (first o (length j))) o ≡ Some m → (first_at f j t ≡ Some m) ⊎ (m ≡ length j)
-      go true None q e = inr (sym (same_Some _ _ e))
-      go true (Some n) q e = inl (q ∙ e)
-      go false o q e = inl (q ∙ e)
+  first_late f l j t m h = grind arith
 
   -- every transaction has its placing on record
   pub placed_known : (j : Trace K) (t : ℕ) → t < count j → Known (placed_at j t)
@@ -43,9 +33,7 @@ module _ {K : Type 0} where
       old k = (k.0, first_stays begins_now l j t k.0 k.1)
 
       new : begins_now l.act ≡ true → t ≡ count j → belongs l j t ≡ true
-      new b e =
-          ap (λ (o : Option ℕ). is o t) (cond-true (begins_now l.act && eqb l.process l.process) (Some (count j)) (whose j l.process) (ap (λ (x : Bool). x && eqb l.process l.process) b ∙ eq-eqb l.process l.process refl))
-          ∙ eq-eqb (count j) t (sym e)
+      new b e = grind arith
 
       go : (t < count j → Known (placed_at j t)) → (b : Bool) → begins_now l.act ≡ b → t < cond b (suc (count j)) (count j) → Known (placed_at (l ∷ j) t)
       go up true e k =
@@ -106,7 +94,7 @@ module _ {K : Type 0} where
       )
     where
       at_end : (f : Act K → Bool) (v m : ℕ) → first_at f j v ≡ None → first_at f (l ∷ j) v ≡ Some m → length j ≤ m
-      at_end f v m none e = elim (first_late f l j v m e) [ inl q ↦ cc (sym none ∙ q) | inr q ↦ omega arith ]
+      at_end f v m none e = elim (first_late f l j v m e) [ inl q ↦ absurd (none-some _ (sym none ∙ q)) | inr q ↦ omega arith ]
 
       open_now : (v : ℕ) → Known (placed_at j v) → ended_at j v ≡ None → OpenAt (l ∷ j) v (length j)
       open_now v k e =

@@ -1,7 +1,7 @@
 -- The requests on record, the operations of the protocol, and the run alone.
-use Rattle.std.proofs.Common.{◌≡◌, ℕ, zero, suc, Bool, true, false, cond, eqb, List, [], ◌∷◌, ◌++◌, Some, sym, refl, ap, ◌∙◌, subst, inl, inr}
+use Rattle.std.proofs.Common.{◌≡◌, ℕ, zero, suc, Bool, true, false, cond, eqb, List, [], ◌∷◌, ◌++◌, Some, sym, refl, ap, ◌∙◌, subst, inl, inr, arith}
 use mathlib.Core.Path.{fun_ext}
-use Rattle.std.proofs.lemmas.Bool.{cases_eq, true≢false}
+use Rattle.std.proofs.lemmas.Bool.{true≢false, cases_eq}
 use Rattle.tables.specs.declared.reply.Request.{Request}
 use Rattle.tables.specs.declared.reply.Request.TheVariants.{Begin, Read, Write, Commit, Withdraw}
 use Rattle.protocol.specs.Table.{put}
@@ -59,11 +59,10 @@ module _ {K : Type 0} where
       (c : Ops readings requests operations sealed) (t : ℕ) where
     -- a sealed transaction is another than one that is not
     not_sealed : sealed t ≡ false → (u : ℕ) → sealed u ≡ true → t ≡ u → ⊥
-    not_sealed o u h e = cc
+    not_sealed o u h e = true≢false (sym h ∙ ap sealed (sym e) ∙ o)
 
     still : (d : Operation K) → sealed t ≡ false → (u : ℕ) → sealed u ≡ true → requests u ≡ Commit ∷ started (put operations t (d ∷ operations t) u)
-    still d o u h =
-        c.asks u h ∙ ap (λ (ds : List (Operation K)). Commit ∷ started ds) (sym (put_other operations t (d ∷ operations t) u (not_sealed o u h)))
+    still d o u h = grind arith
 
     -- t writes
     pub ops_set : (x : ℕ) (v : K) → sealed t ≡ false → Ops readings requests (put operations t (set x v ∷ operations t)) sealed
@@ -124,8 +123,7 @@ module _ {K : Type 0} where
     where
       go : (b : Bool) → shows (fed m (started ds)) x ≡ after m.own ds x
           → first (cond b (Some v) ((fed m (started ds)).pend x)) ((fed m (started ds)).own x) ≡ cond b v (after m.own ds x)
-      go true h = refl
-      go false h = h
+      go b h = grind arith
 
   pub gotten_results : (m : Alone K) (ds : List (Operation K)) → Agrees m.own ds → gotten m (started ds) ≡ results ds
   gotten_results m [] a = refl

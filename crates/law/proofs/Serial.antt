@@ -1,6 +1,6 @@
 -- From the protocol's law to the law over traces: serializability, and the contents of versions.
 use Rattle.std.proofs.Common.{◌≡◌, ℕ, zero, suc, ◌<◌, ◌≤◌, Bool, true, false, cond, ◌⊎◌, List, ◌∷◌, sym, refl, ap, ◌∙◌, subst, inl, inr, arith}
-use Rattle.std.proofs.lemmas.Bool.{cases_eq, cond_both}
+use Rattle.std.proofs.lemmas.Bool.{cases_eq, cond_both, true≢false}
 use Rattle.std.proofs.lemmas.Option.{none-some}
 use Rattle.tables.specs.declared.reply.Request.{Request}
 use Rattle.protocol.specs.Protocol.{Event, Lawful, state}
@@ -26,9 +26,7 @@ module _ {K : Type 0} where
 
       go : (In t (committed y k) → (i : ℕ) × (i < k) × (y.order i ≡ t) × (y.sealed t ≡ true)) → (b : Bool) → y.sealed (y.order k) ≡ b → In t (cond b (y.order k ∷ committed y k) (committed y k))
           → (i : ℕ) × (i < suc k) × (y.order i ≡ t) × (y.sealed t ≡ true)
-      go rec true e (inl m) = (k, omega arith, sym m, ap y.sealed m ∙ e)
-      go rec true e (inr m) = up (rec m)
-      go rec false e m = up (rec m)
+      go rec b e m = grind arith
 
   in_committed : (y : Commits K) (k i : ℕ) → i < k → y.sealed (y.order i) ≡ true → In (y.order i) (committed y k)
   in_committed y zero i l h = absurd (omega arith)
@@ -36,7 +34,7 @@ module _ {K : Type 0} where
     where
       go : (i < k → In (y.order i) (committed y k)) → (k ≡ i) ⊎ (k ≡ i → ⊥) → (b : Bool) → y.sealed (y.order k) ≡ b → In (y.order i) (cond b (y.order k ∷ committed y k) (committed y k))
       go rec (inl e) true q = inl (ap y.order (sym e))
-      go rec (inl e) false q = cc (sym h ∙ ap (λ (n : ℕ). y.sealed (y.order n)) (sym e) ∙ q)
+      go rec (inl e) false q = absurd (true≢false (sym h ∙ ap (λ (n : ℕ). y.sealed (y.order n)) (sym e) ∙ q))
       go rec (inr e) true q = inr (rec (omega arith))
       go rec (inr e) false q = rec (omega arith)
 

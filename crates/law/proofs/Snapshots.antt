@@ -1,6 +1,7 @@
 -- From the protocol's law to the law over traces: no transaction reads a version older than one that it comes after.
 use Rattle.std.proofs.Common.{◌≡◌, ℕ, zero, suc, ◌<◌, ◌≤◌, ◌⊎◌, List, [], ◌∷◌, Some, sym, refl, ap, ◌∙◌, subst, inl, inr, arith}
 use Rattle.std.proofs.lemmas.Bool.{cases_lt}
+use Rattle.std.proofs.lemmas.Option.{none-some}
 use Rattle.protocol.specs.Protocol.{Event, Lawful}
 use Rattle.protocol.specs.History.{Access, Mark, history}
 use Rattle.protocol.specs.History as events
@@ -26,12 +27,10 @@ opening_by e = cc
 
 -- a version with a maker is none of the opening's
 named : (maker : ℕ → ℕ) (i t : ℕ) → by t ≡ name maker i → (0 < i) × (maker i ≡ t)
-named maker zero t e = absurd (opening_by (sym e))
-named maker (suc i) t e = (omega arith, (let k : t ≡ maker (suc i) = cc in sym k))
+named maker i t e = grind arith
 
 named_opening : (maker : ℕ → ℕ) (i : ℕ) → opening ≡ name maker i → i ≡ 0
-named_opening maker zero e = refl
-named_opening maker (suc i) e = absurd (opening_by e)
+named_opening maker i e = grind arith
 
 -- the versions of an object on record are those of the protocol, in the same order
 chain_in : (over : ℕ → ℕ → Mark) (maker : ℕ → ℕ) (x : ℕ) → ((i h : ℕ) → over i x ≡ some h → h < i) → (u k : ℕ) (ts : List ℕ) → Chain over maker x k ts → In u ts
@@ -125,7 +124,7 @@ module _ {K : Type 0} (P : ℕ) (start : ℕ → K) (b : ℕ → ℕ) (j : Trace
       begun_too m h =
           elim (cases_lt t (history es).begun) [
             | inl l ↦ l
-            | inr l ↦ cc (sym (unborn_at begins j t (let k = c.base.counts in omega arith)) ∙ h)
+            | inr l ↦ absurd (none-some _ (sym (unborn_at begins j t (let k = c.base.counts in omega arith)) ∙ h))
           ]
   comes_after (after_link w f g) = after_chain (comes_after f) (comes_after g)
 

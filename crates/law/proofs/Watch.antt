@@ -1,6 +1,6 @@
 -- Each step keeps on record who holds what, and gives aborts their reasons.
-use Rattle.std.proofs.Common.{◌≡◌, ℕ, Bool, true, cond, ◌&&◌, ◌||◌, eqb, ◌⊎◌, List, [], ◌∷◌, ◌++◌, Some, None, Option, sym, refl, ap, ◌∙◌, subst, inl, inr, arith}
-use Rattle.std.proofs.lemmas.Bool.{eq-eqb, ne_eqb, cond-true, cond-false, or_right}
+use Rattle.std.proofs.Common.{◌≡◌, ℕ, Bool, true, cond, ◌&&◌, eqb, ◌⊎◌, List, [], ◌∷◌, ◌++◌, Some, None, Option, sym, refl, ap, ◌∙◌, subst, inl, inr, arith}
+use Rattle.std.proofs.lemmas.Bool.{ne_eqb, cond-false, or_right, true≢false}
 use Rattle.std.proofs.lemmas.Option.{same_Some}
 use Rattle.tables.specs.declared.reply.Conflict.{Conflict}
 use Rattle.tables.specs.declared.reply.Conflict.TheVariants as conflict
@@ -64,7 +64,7 @@ module _ {K : Type 0} (P : ℕ) (start : ℕ → K) (b : ℕ → ℕ) (j : Trace
   HoldingOf k fs = Holding (state start b fs).phase (state start b fs).held (history fs).current (taken k) (stored_at k) (freed_at k)
 
   own_is : (u : ℕ) → is (whose j p) u ≡ eqb ((history es).current p) u
-  own_is u = cc
+  own_is u = ap (λ (o : Option ℕ). is o u) who
 
   -- p becomes the holder of x
   takes : (x : ℕ) (v : K) → (state start b es).phase p ≡ running
@@ -74,7 +74,7 @@ module _ {K : Type 0} (P : ℕ) (start : ℕ → K) (b : ℕ → ℕ) (j : Trace
         cond_among,
         elim (known_or (stored_at j ((history es).current p) x)) [
           | inl e ↦ e
-          | inr e ↦ cc (sym (c.core.versions.storers ((history es).current p) x e) ∙ (all P start b es lawful).linked.opens p (inr (inl run)))
+          | inr e ↦ absurd (true≢false (sym (c.core.versions.storers ((history es).current p) x e) ∙ (all P start b es lawful).linked.opens p (inr (inl run))))
         ],
         w.holding.unfreed p in' (λ e. differ running aborting tt (sym run ∙ e)) x,
       )
@@ -83,9 +83,7 @@ module _ {K : Type 0} (P : ℕ) (start : ℕ → K) (b : ℕ → ℕ) (j : Trace
       more u y e = when (λ (l : List ℕ). among y l ≡ true) (is (whose j p) u) ((history es).current p) u _ _ (own_is u) (λ n. or_right (eqb y x) (among y (taken j u)) e) (λ n. e)
 
       cond_among : among x (cond (is (whose j p) ((history es).current p)) (x ∷ taken j ((history es).current p)) (taken j ((history es).current p))) ≡ true
-      cond_among =
-          ap (among x) (cond-true (is (whose j p) ((history es).current p)) _ _ (own_is ((history es).current p) ∙ eq-eqb ((history es).current p) ((history es).current p) refl))
-          ∙ ap (λ (k : Bool). k || among x (taken j ((history es).current p))) (eq-eqb x x refl)
+      cond_among = grind arith
 
   elsewhere : (x u y : ℕ) (o o' : Option ℕ) → (x ≡ y → ⊥) → cond (eqb x y && is (whose j p) u) o' o ≡ o
   elsewhere x u y o o' n = cond-false (eqb x y && is (whose j p) u) o' o (ap (λ (k : Bool). k && is (whose j p) u) (ne_eqb x y n))

@@ -1,7 +1,6 @@
 -- Every placing and every step on a good memory is a lawful block of events of the protocol, by what it replies.
 use Rattle.std.proofs.Common.{◌≡◌, ℕ, ◌<◌, ◌≤◌, Bool, true, false, cond, not, List, [], ◌∷◌, length, Some, None, Ok, Err, Option, sym, refl, subst, arith}
 use Rattle.std.proofs.lemmas.List.{get_or-set_same}
-use Rattle.std.proofs.lemmas.Bool.Decides.{nat_tests}
 use Rattle.tables.specs.Tables.{Tables, process_at, hand_at, with_process, with_hand, idle_process}
 use Rattle.tables.specs.declared.process.Phase.{Phase}
 use Rattle.tables.specs.declared.process.Phase.TheVariants.{Idle}
@@ -48,7 +47,7 @@ module _ {K B : Type 0} (e : K) (number : B → ℕ → ℕ) (moved : B → ℕ 
 
   -- a step that is refused changes nothing
   pub step_refused : (t : Tables K) (b : B) (p : ℕ) (q : Refusal) → (step_call e (number b) t p).reply ≡ Err q → ((step_call e (number b) t p).tables ≡ t) × (step_bank e number moved t b p ≡ b)
-  step_refused t b p q = grind (arith, nat_tests)
+  step_refused t b p q = grind arith
 
 -- the events of a placing
 abbrev pub placing_events : {K : Type 0} → ℕ → Request K → List (Event K)
@@ -92,7 +91,7 @@ placement e number t s p q l idle d f asks shown =
 
 -- a phase that is idle
 idle_of : (f : Phase) → is_idle f ≡ true → f ≡ Idle
-idle_of f h = grind (arith, nat_tests)
+idle_of f h = grind arith
 
 module _ {K : Type 0} (e : K) (number : ℕ → ℕ) (t : Tables K) (p : ℕ) where
   -- a placing, by its request
@@ -102,7 +101,7 @@ module _ {K : Type 0} (e : K) (number : ℕ → ℕ) (t : Tables K) (p : ℕ) wh
       placement e number t s p ask.Begin l idle d (frame_none t p) refl (begin_shown e number t s p g v l (not_live (process_at t p).live d))
     where
       not_live : (k : Bool) → not k ≡ true → k ≡ false
-      not_live k n = grind (arith, nat_tests)
+      not_live k n = grind arith
   placed_as s (ask.Read x) g v l idle d =
       placement e number t s p (ask.Read x) l idle d (frame_none t p) refl
       (placed_shown e number t s p g v l t (ask.Read x) (frame_none t p) refl refl refl d idle (λ n. cc))
@@ -123,10 +122,10 @@ module _ {K : Type 0} (e : K) (number : ℕ → ℕ) (t : Tables K) (p : ℕ) wh
   place_advances s q g v = go (place_no e t p q) refl
     where
       both : (x y : Option Refusal) → first_no x y ≡ None → (x ≡ None) × (y ≡ None)
-      both x y h = grind (arith, nat_tests)
+      both x y h = grind arith
 
       asked : (x y : Bool) (o : Option Refusal) → cond x (cond y o (Some refusal.Transaction)) (Some refusal.InHand) ≡ None → (x ≡ true) × (y ≡ true)
-      asked x y o h = grind (arith, nat_tests)
+      asked x y o h = grind arith
 
       go : (o : Option Refusal) → place_no e t p q ≡ o → (place_unless o t p q).reply ≡ Ok tt → Placement e (length t.processes) number t (place_unless o t p q).tables s p q
       go (Some r) n h = cc
@@ -137,4 +136,4 @@ module _ {K : Type 0} (e : K) (number : ℕ → ℕ) (t : Tables K) (p : ℕ) wh
 
 -- a placing that is refused changes nothing
 pub place_refused : {K : Type 0} (e : K) (t : Tables K) (p : ℕ) (q : Request K) (r : Refusal) → (place_call e t p q).reply ≡ Err r → (place_call e t p q).tables ≡ t
-place_refused e t p q r = grind (arith, nat_tests)
+place_refused e t p q r = grind arith

@@ -231,7 +231,7 @@ module _ {K : Type 0} (e : K) (t : Tables K) (p : ℕ) (g : Good e t) (l : p < l
       (λ q. advances (Freeing 0 (Abort c)) (inr (positive (process_at t p).writes q), named, freeing (process_at t p).writes (process_at t p).steps q few))
     where
       positive : (n : ℕ) → eqb n 0 ≡ false → 0 < n
-      positive n q = grind (arith, nat_tests)
+      positive n q = grind arith
 
       freeing : (n s : ℕ) → eqb n 0 ≡ false → s + 1 + n ≤ 49 → s + 1 + cond (eqb n 0) 1 (n - 0) ≤ 49
       freeing n s q h = simp q (omega arith)

@@ -19,14 +19,13 @@ use Rattle.engine.specs.Step.{step_unless, step_call}
 use Rattle.engine.specs.Place.{access_no, object_no, request_no, placed, handed, first_no, place_no, place_unless, place_call}
 use Rattle.engine.specs.Sound.{refused, readable, writable}
 use Rattle.std.proofs.lemmas.List.{get_or-replicate, get_or-map, length-map, length-replicate}
-use Rattle.std.proofs.lemmas.Bool.Decides.{nat_tests}
 use Rattle.tables.specs.Fresh.{unheld, fresh_tables}
 use Rattle.tables.specs.Tables.{numbers_ok, idle_process}
 
 -- a call that the first questions do not refuse names a process
 pub within : {K : Type 0} (e : K) (t : Tables K) (p : ℕ) → refused e t p ≡ None → p < length t.processes
 unfolding refused
-within e t p h = grind (arith, nat_tests)
+within e t p h = grind arith
 
 -- on a good memory the first questions refuse only a process that is not there
 pub unrefused : {K : Type 0} (e : K) (t : Tables K) (p : ℕ) → Good e t → p < length t.processes → refused e t p ≡ None
@@ -39,7 +38,7 @@ unrefused e t p g l =
 
 pub absent : {K : Type 0} (e : K) (t : Tables K) (p : ℕ) → Good e t → length t.processes ≤ p → refused e t p ≡ Some refusal.Process
 unfolding refused
-absent e t p g l = grind (arith, nat_tests)
+absent e t p g l = grind arith
 
 step_at : {K : Type 0} (e : K) (number : ℕ → ℕ) (t : Tables K) (p : ℕ) (r : Option Refusal) → Good e t → ((q : ℕ) → number q ≤ 2 ^ 40) → refused e t p ≡ r → Good e (step_unless r e number t p).tables
 step_at e number t p (Some q) g ranged h = g
@@ -50,10 +49,10 @@ step_good e number t p g ranged = step_at e number t p (refused e t p) g ranged 
 
 -- what a placing that is not refused tells
 access_yes : {K : Type 0} (t : Tables K) (x : ℕ) (fits : Bool) → access_no t x fits ≡ None → (x < length t.objects) × (fits ≡ true)
-access_yes t x fits h = grind (arith, nat_tests)
+access_yes t x fits h = grind arith
 
 object_yes : {K : Type 0} (t : Tables K) (p : ℕ) (q : Request K) → request_no t p q ≡ None → object_no t p q ≡ None
-object_yes t p q h = grind (arith, nat_tests)
+object_yes t p q h = grind arith
 
 module _ {K : Type 0} (e : K) (t : Tables K) (p : ℕ) (g : Good e t) (l : p < length t.processes) where
   -- a request is placed
@@ -86,7 +85,7 @@ place_at e t p q None g h =
     let a = both (refused e t p) (request_no t p q) h in placed_good e t p g (within e t p a.0) q (object_yes t p q a.1)
   where
     both : (a b : Option Refusal) → first_no a b ≡ None → (a ≡ None) × (b ≡ None)
-    both a b h = grind (arith, nat_tests)
+    both a b h = grind arith
 
 pub place_good : {K : Type 0} (e : K) (t : Tables K) (p : ℕ) (q : Request K) → Good e t → Good e (place_call e t p q).tables
 place_good e t p q g = place_at e t p q (place_no e t p q) g refl

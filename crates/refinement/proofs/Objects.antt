@@ -1,7 +1,6 @@
 -- A step that changes one object, or the pending content of one: what must be shown for the view after it.
 use Rattle.std.proofs.Common.{◌≡◌, ℕ, ◌≤◌, false, ◌⊎◌, List, Some, None, Option, sym, refl, ap, ◌∙◌, subst, inl, inr, arith}
 use Rattle.std.proofs.lemmas.Bool.{cases_eq}
-use Rattle.std.proofs.lemmas.Bool.Decides.{nat_tests}
 use Rattle.tables.specs.Lookup.{value_of}
 use Rattle.tables.specs.Tables.{Tables, process_at, object_at, hand_at, read_set}
 use Rattle.tables.specs.declared.map.Slot.{Slot}
@@ -58,10 +57,10 @@ module _ {K : Type 0} (e : K) (number : ℕ → ℕ) (t u : Tables K) (s z : Sta
       d (own_holder (object_at e t x).holder (v.holds q x w b) clear)
     where
       own_holder : (o : Option ℕ) → o ≡ Some q → foreign o p ≡ false → q ≡ p
-      own_holder o n k = grind (arith, nat_tests)
+      own_holder o n k = grind arith
 
   covered_other : (q y : ℕ) (w : K) → (p ≡ q → ⊥) → (x ≡ y → ⊥) → z.phase q ≡ running → z.held y ≡ by q w → (z.stamp y ≤ z.clock q) ⊎ (z.stamp y ≤ z.need q)
-  covered_other q y w d n run k = grind (arith, nat_tests)
+  covered_other q y w d n run k = grind arith
 
   pub object_view : View e number u z
   object_view =

@@ -1,11 +1,9 @@
 -- What soundness says of one process, over its record and its two sets alone, and of a whole memory.
-use Rattle.std.proofs.Common.{◌≡◌, ℕ, ◌+◌, ◌-◌, ◌^◌, ◌<◌, ◌≤◌, Bool, true, false, cond, ◌&&◌, ◌||◌, eqb, ltb, leb, ◌⊎◌, List, length, is_some, refl, ◌∙◌, arith}
+use Rattle.std.proofs.Common.{◌≡◌, ℕ, ◌+◌, ◌-◌, ◌^◌, ◌<◌, ◌≤◌, true, cond, ◌&&◌, ◌||◌, eqb, leb, ◌⊎◌, List, length, is_some, refl, ◌∙◌, arith}
 use Rattle.std.proofs.lemmas.Bool.{and_from, le-leb}
-use Rattle.std.proofs.lemmas.Bool.Decides.{nat_tests}
 use Rattle.tables.specs.Lookup.{value_of}
 use Rattle.tables.specs.Tables.{Tables, process_at, read_set, write_set, sizes_ok}
 use Rattle.tables.specs.declared.map.Slot.{Slot}
-use Rattle.tables.specs.declared.memory.Object.{Object}
 use Rattle.tables.specs.declared.process.Access.{Access}
 use Rattle.tables.specs.declared.process.Access.TheVariants as access
 use Rattle.tables.specs.declared.process.Ending.{Ending}
@@ -15,7 +13,7 @@ use Rattle.tables.specs.declared.process.Phase.TheVariants.{Idle, Beginning, Rea
 use Rattle.tables.specs.declared.process.Process.{Process}
 use Rattle.tables.specs.declared.reply.Conflict.{Conflict}
 use Rattle.tables.specs.declared.reply.Conflict.TheVariants.{Held, Changed, Spent}
-use Rattle.engine.specs.Sound.{room, counts_ok, sets_ok, phase_ok, steps_left, sound_ok, all_named, stamps_ok, distinct, ending_ok, access_room}
+use Rattle.engine.specs.Sound.{room, counts_ok, sets_ok, phase_ok, steps_left, sound_ok, all_named, stamps_ok, distinct}
 use Rattle.refinement.proofs.Sets.{names, below, apart, ObjectsOk, named_of_below, distinct_apart}
 
 -- the objects that an ending names are below n
@@ -65,28 +63,14 @@ pub record Good {K : Type 0} (e : K) (t : Tables K) : Type 0 where
   pub objects : ObjectsOk e t.objects (length t.processes)
   pub owns : (p : ℕ) → p < length t.processes → Own t p
 
--- the tests, from the facts
-ending_from : {K : Type 0} (e : K) (os : List (Object K)) (n : ℕ) (x : Ending) → ObjectsOk e os n → EndingNamed (length os) x → ending_ok e os n x ≡ true
-ending_from e os n x ok h = grind (arith, nat_tests)
-
-access_from : {K : Type 0} (t : Tables K) (p x : ℕ) (a : Access) → AccessFits (process_at t p) (read_set t p) x a → access_room t p x a ≡ true
-access_from t p x a h = grind (arith, nat_tests)
-
-freeing_from : (next n : ℕ) (ok : Bool) → (n ≡ 0) ⊎ (next < n) → ok ≡ true → ((eqb n 0 || ltb next n) && ok) ≡ true
-freeing_from next n ok h k = grind (arith, nat_tests)
-
 pub phase_from : {K : Type 0} (e : K) (t : Tables K) (p : ℕ) (f : Phase) → ObjectsOk e t.objects (length t.processes) → PhaseOwn (length t.processes) (length t.objects) (process_at t p) (read_set t p) (write_set t p) f → phase_ok e t p (process_at t p) f ≡ true
-phase_from e t p f ok h = grind (arith, nat_tests)
-
--- one step if the object is in the write set, else k more
-either_bound : (b : Bool) (s k m : ℕ) → s ≡ 0 → 1 ≤ m → (b ≡ false → k ≤ m) → s + cond b 1 k ≤ m
-either_bound b s k m z l h = grind (arith, nat_tests)
+phase_from e t p f ok h = grind arith
 
 pub steps_from : {K : Type 0} (t : Tables K) (p : ℕ) (f : Phase) → length t.processes ≤ 64 → (process_at t p).reads ≤ 32 → (process_at t p).writes ≤ 16 → (process_at t p).phase ≡ f → PhaseOwn (length t.processes) (length t.objects) (process_at t p) (read_set t p) (write_set t p) f → (process_at t p).steps + steps_left t p (process_at t p) f ≤ 64
-steps_from t p f few a b q h = grind (arith, nat_tests)
+steps_from t p f few a b q h = grind arith
 
 few_from : {K : Type 0} (t : Tables K) → sizes_ok t ≡ true → length t.processes ≤ 64
-few_from t h = grind (arith, nat_tests)
+few_from t h = grind arith
 
 pub sound_from : {K : Type 0} (e : K) (t : Tables K) (p : ℕ) → Good e t → p < length t.processes → sound_ok e t p ≡ true
 sound_from e t p g l =
@@ -112,4 +96,4 @@ sound_from e t p g l =
     (le-leb (r.steps + steps_left t p r r.phase) 64 st)
   where
     counts_from : (a b c d : ℕ) → a ≤ 32 → b ≤ 16 → c ≤ 2 ^ 40 → d ≤ 64 → (leb a 32 && leb b 16 && leb c (2 ^ 40) && leb d 64) ≡ true
-    counts_from a b c d h i j k = grind (arith, nat_tests)
+    counts_from a b c d h i j k = grind arith

@@ -1,7 +1,6 @@
 -- A step that changes its process's own row alone: no object, no holder and no pending content. The bank may grow.
 use Rattle.std.proofs.Common.{◌≡◌, ℕ, ◌≤◌, ◌⊎◌, List, get_or, Some, None, Option, sym, ap, ◌∙◌, subst, inl, inr, arith}
 use Rattle.std.proofs.lemmas.Bool.{cases_eq}
-use Rattle.std.proofs.lemmas.Bool.Decides.{nat_tests}
 use Rattle.tables.specs.Lookup.{value_of}
 use Rattle.tables.specs.Tables.{Tables, process_at, object_at, hand_at, read_set, blank_object}
 use Rattle.tables.specs.declared.map.Slot.{Slot}
@@ -21,7 +20,7 @@ holder_at t u x (Some q) h same a = (a.0, ap (λ (l : List (Slot _)). value_of l
 
 -- the clock covers what q holds, over an equal row
 covered_at : {K : Type 0} (s z : State K) (q x : ℕ) (v : K) → row z q ≡ row s q → (s.phase q ≡ running → (s.stamp x ≤ s.clock q) ⊎ (s.stamp x ≤ s.need q)) → z.stamp x ≡ s.stamp x → z.phase q ≡ running → (z.stamp x ≤ z.clock q) ⊎ (z.stamp x ≤ z.need q)
-covered_at s z q x v same c st run = grind (arith, nat_tests)
+covered_at s z q x v same c st run = grind arith
 
 module _ {K : Type 0} (e : K) (number larger : ℕ → ℕ) (t u : Tables K) (s z : State K) (p : ℕ) (g : Good e t) (v : View e number t s) (f : Frame t u p)
     (objects : u.objects ≡ t.objects) (pending : pending_of u p ≡ pending_of t p)

@@ -1,6 +1,5 @@
 -- The steps of snapshot extension and certification whose look has passed, as blocks of events.
 use Rattle.std.proofs.Common.{◌≡◌, ℕ, ◌+◌, ◌*◌, ◌<◌, ◌≤◌, Bool, true, false, cond, eqb, List, [], ◌∷◌, length, drop, Some, Option, sym, refl, ap, ◌∙◌, subst, inl, arith}
-use Rattle.std.proofs.lemmas.Bool.Decides.{nat_tests}
 use Rattle.tables.specs.Lookup.{value_of}
 use Rattle.tables.specs.Tables.{Tables, process_at, object_at, hand_at, read_at, read_set, with_process}
 use Rattle.tables.specs.declared.map.Slot.{Slot}
@@ -68,7 +67,7 @@ module _ {K : Type 0} (e : K) (number : ℕ → ℕ) (t : Tables K) (s : State K
         record { phase = a.phase; seen = a.seen; clock = a.clock ∙ sym c; hand = a.hand; need = a.need; later = omega arith; passed = passed_now }
 
     pub covers_extended : (y : ℕ) (k : K) → s.held y ≡ by p k → s.stamp y ≤ s.need p
-    covers_extended y k c = grind (arith, nat_tests)
+    covers_extended y k c = grind arith
 
   -- an extension that goes on
   pub extending_shown : (x to i : ℕ) (acc : Access) → (process_at t p).phase ≡ Extending x to i acc → i < (process_at t p).reads

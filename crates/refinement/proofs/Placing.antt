@@ -1,7 +1,6 @@
 -- The placings, and the steps that touch no object, as blocks of events.
 use Rattle.std.proofs.Common.{◌≡◌, ℕ, ◌+◌, ◌*◌, ◌<◌, ◌≤◌, min, Bool, true, false, List, [], ◌∷◌, length, drop, Some, sym, refl, ap, ◌∙◌, subst, inl, inr, arith}
 use Rattle.std.proofs.lemmas.Bool.{cases_lt}
-use Rattle.std.proofs.lemmas.Bool.Decides.{nat_tests}
 use Rattle.tables.specs.Lookup.{value_of}
 use Rattle.tables.specs.Tables.{Tables, process_at, object_at, hand_at, read_set, write_set, with_process}
 use Rattle.tables.specs.declared.map.Slot.{Slot}
@@ -49,11 +48,11 @@ module _ {K : Type 0} (e : K) (number : ℕ → ℕ) (t : Tables K) (s : State K
       omega arith
     where
       empty_pending : (n k : ℕ) → n ≡ 0 → value_of (drop k (window t.writes (p * 16) n)) x ≡ Some w → ◌≡◌ {A = ℕ} 0 1
-      empty_pending n k h a = grind (arith, nat_tests)
+      empty_pending n k h a = grind arith
 
   -- a resting transaction's clock covers what it holds
   pub rest_covers : Rests (process_at t p) (read_set t p) (row s p) → (x : ℕ) (k : K) → s.held x ≡ by p k → s.stamp x ≤ s.clock p
-  rest_covers a x k h = grind (arith, nat_tests)
+  rest_covers a x k h = grind arith
 
   -- the same resting row, for a record with the same clock
   pub rests_on : (r : Process) (rs : List (Slot ℕ)) → r.clock ≡ (process_at t p).clock → Rests (process_at t p) rs (row s p) → Rests r rs (row s p)
@@ -67,7 +66,7 @@ module _ {K : Type 0} (e : K) (number : ℕ → ℕ) (t : Tables K) (s : State K
   first_row ask.Withdraw h a n = inl (refl, refl, rests_on (placed {K = K} (process_at t p) ask.Withdraw) (read_set t p) refl a)
 
   none_gone : (q : Request K) → gone (first_phase q) ≡ 0
-  none_gone q = grind (arith, nat_tests)
+  none_gone q = grind arith
 
   -- a request other than begin is placed: no event
   pub placed_shown : (w : Tables K) (q : Request K) → Frame t w p → w.objects ≡ t.objects → w.writes ≡ t.writes → w.reads ≡ t.reads → (process_at t p).live ≡ true → (process_at t p).phase ≡ Idle → (q ≡ ask.Begin → ⊥)

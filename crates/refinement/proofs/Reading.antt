@@ -1,7 +1,6 @@
 -- The steps of a read, and snapshot extension, as blocks of events.
 use Rattle.std.proofs.Common.{◌≡◌, ℕ, ◌+◌, ◌*◌, ◌<◌, ◌≤◌, Bool, true, false, cond, eqb, List, [], ◌∷◌, ◌++◌, length, drop, Some, None, Option, sym, refl, ap, ◌∙◌, subst, inl, inr, arith}
 use Rattle.std.proofs.lemmas.Bool.{eqb-true, cases_Bool}
-use Rattle.std.proofs.lemmas.Bool.Decides.{nat_tests}
 use Rattle.std.proofs.lemmas.List.{get_or-set_same}
 use Rattle.tables.specs.Lookup.{pair, value_of}
 use Rattle.tables.specs.Tables.{Tables, process_at, object_at, hand_at, read_set, write_set, with_process, with_hand, with_read}
@@ -47,7 +46,7 @@ value_push (s ∷ ss) x y u h =
     some_none v o b q h = cc
 
     other : (a x y : ℕ) → eqb a x ≡ false → eqb a y ≡ true → eqb x y ≡ false
-    other a x y n m = grind (arith, nat_tests)
+    other a x y n m = grind arith
 
 module _ {K : Type 0} (e : K) (number : ℕ → ℕ) (t : Tables K) (s : State K) (p : ℕ) (g : Good e t) (v : View e number t s) (l : p < length t.processes) where
   rest_of : Rests (process_at t p) (read_set t p) (row s p) → Rest s p
@@ -77,7 +76,7 @@ module _ {K : Type 0} (e : K) (number : ℕ → ℕ) (t : Tables K) (s : State K
   module _ (x : ℕ) (a : Rests (process_at t p) (read_set t p) (row s p)) (none : value_of (write_set t p) x ≡ None) (q : (process_at t p).phase ≡ Reading x)
       (clear : foreign (object_at e t x).holder p ≡ false) (fresh : differs (value_of (read_set t p) x) (object_at e t x).stamp ≡ false) where
     nobody_holds : s.held x ≡ nobody
-    nobody_holds = grind (arith, nat_tests)
+    nobody_holds = grind arith
 
     pend : (r : Process) → r.phase ≡ Idle → r.writes ≡ (process_at t p).writes → drop (gone r.phase) (window t.writes (p * 16) r.writes) ≡ pending_of t p
     pend r rp wr = cc
@@ -99,7 +98,7 @@ module _ {K : Type 0} (e : K) (number : ℕ → ℕ) (t : Tables K) (s : State K
 
     -- what was seen is the stamp that was found
     present : (u : ℕ) (o : Option ℕ) → o ≡ Some u → differs o (object_at e t x).stamp ≡ false → u ≡ (object_at e t x).stamp
-    present u o n d = grind (arith, nat_tests)
+    present u o n d = grind arith
 
     -- x is in the read set already
     pub in_already : (u : ℕ) → value_of (read_set t p) x ≡ Some u → In-set (read_set t p)
@@ -154,7 +153,7 @@ module _ {K : Type 0} (e : K) (number : ℕ → ℕ) (t : Tables K) (s : State K
         )
       where
         unread : (y u : ℕ) (w : K) (n : ℕ) → n ≡ 0 → s.seen p y ≡ saw u w → ⊥
-        unread y u w n z h = grind (arith, nat_tests)
+        unread y u w n z h = grind arith
 
     -- the row once the read is answered
     now_row : (r : Process) (rs : List (Slot ℕ)) → In-set rs → r.clock ≡ (process_at t p).clock → (object_at e t x).stamp ≤ (process_at t p).clock

@@ -1,6 +1,5 @@
 -- What an event does to the row of the process that acts, and that it leaves the rows of the others.
 use Rattle.std.proofs.Common.{◌≡◌, ℕ, Bool, true, false, arith}
-use Rattle.std.proofs.lemmas.Bool.Decides.{nat_tests}
 use Rattle.protocol.specs.Table.{put}
 use Rattle.protocol.specs.Protocol.{State, Seen, Hand, Phase, Event, next}
 use Rattle.protocol.specs.Protocol.Seen.{unseen, saw}
@@ -74,8 +73,8 @@ module _ {K : Type 0} where
   Acts (close q) p = q ≡ p
 
   pub row_acted : (s : State K) (ev : Event K) (p : ℕ) → Acts ev p → row (next s ev) p ≡ acted s.stamp ev (row s p)
-  row_acted s ev p a = grind (arith, nat_tests)
+  row_acted s ev p a = grind arith
 
   -- the rows of the others
   pub row_others : (s : State K) (ev : Event K) (p q : ℕ) → Acts ev p → (p ≡ q → ⊥) → row (next s ev) q ≡ row s q
-  row_others s ev p q a n = grind (arith, nat_tests)
+  row_others s ev p q a n = grind arith

@@ -1,7 +1,6 @@
 -- Every step is a lawful block of events of the protocol, by its phase and its reply.
 use Rattle.std.proofs.Common.{◌≡◌, ℕ, ◌+◌, ◌*◌, ◌^◌, ◌<◌, ◌≤◌, min, max, Bool, true, false, cond, ◌&&◌, ◌||◌, eqb, ltb, leb, ◌⊎◌, List, [], ◌∷◌, length, Some, None, Ok, Option, Result, sym, refl, ap, ◌∙◌, subst, inl, inr, arith}
 use Rattle.std.proofs.lemmas.Bool.{cases_Bool, eqb-true, eqb-false, and_parts, or_parts, eq-eqb, cond_both, leb-false, ltb-true, ltb-false}
-use Rattle.std.proofs.lemmas.Bool.Decides.{nat_tests}
 use Rattle.tables.specs.Lookup.{pair, value_of, place_of}
 use Rattle.tables.specs.Tables.{Tables, process_at, object_at, hand_at, read_at, write_at, read_set, write_set, with_process, with_object, with_hand, with_read, with_write}
 use Rattle.tables.specs.declared.map.Slot.{Slot}
@@ -68,10 +67,10 @@ Looking (Storing next) = ⊥
 Looking (Freeing next x) = ⊥
 
 unstopped : (f : Phase) → Looking f → stopped_by f ≡ None
-unstopped f l = grind (arith, nat_tests)
+unstopped f l = grind arith
 
 no_begin : {K : Type 0} (h : K) (f : Phase) (k : Request K) → Looking f → Asks h f k → k ≡ ask.Begin → ⊥
-no_begin h f k l a e = grind (arith, nat_tests)
+no_begin h f k l a e = grind arith
 
 -- a request that goes on to free asks for the same
 asks_freeing : {K : Type 0} (h : K) (i j : ℕ) (x : Ending) (k : Request K) → Asks h (Freeing i x) k → Asks h (Freeing j x) k
@@ -127,7 +126,7 @@ module _ {K : Type 0} (e : K) (number : ℕ → ℕ) (t : Tables K) (s : State K
 
   -- the stamp and the clock
   current_cases : (st ck n : ℕ) → (leb st ck || eqb n 0) ≡ true → (st ≤ ck) ⊎ ((ck < st) × (n ≡ 0))
-  current_cases st ck n h = grind (arith, nat_tests)
+  current_cases st ck n h = grind arith
 
   -- a stamp that needs an extension
   later_is : (st ck n : ℕ) → (leb st ck || eqb n 0) ≡ false → ck < st
@@ -261,7 +260,7 @@ module _ {K : Type 0} (e : K) (number : ℕ → ℕ) (t : Tables K) (s : State K
           (λ j b. rw b (Block.reads_extended x _ _ _ _))
         where
           already : (y : ℕ) → value_of (read_set t p) y ≡ cond (eqb x y) (Some to) (value_of (read_set t p) y)
-          already y = grind (arith, nat_tests)
+          already y = grind arith
       finished same clear fresh last None k =
           let few = room k refl in
           let size = (sizes_facts t g.sizes).reads in
@@ -349,7 +348,7 @@ module _ {K B : Type 0} (e : K) (number : B → ℕ → ℕ) (moved : B → ℕ 
       (seal_shown e (number b) t s p g v l live i st (number (moved b p st)) q a last (omega arith) (omega arith) (λ n. rises b p st n)) (λ k c. (rw c (Block.seals _ _ _), c))
     where
       stamp_is : (c : Bool) → cond c (Some (1 + max (process_at t p).clock (number b p))) None ≡ Some st → 1 + max (process_at t p).clock (number b p) ≡ st
-      stamp_is c k = grind (arith, nat_tests)
+      stamp_is c k = grind arith
   seals s i v q a last None h = stops e (number b) t s p g v l live (Certifying i) conflict.Spent tt a.phase (inr a.phase) (ap gone q)
 
   -- a step of a commit, once certification has begun

@@ -175,7 +175,7 @@ other_row e number larger t u s z p q g v f d same grows =
 
 -- who is on record as holder holds
 pub holder_of : {K : Type 0} (t : Tables K) (x : ℕ) (o : Option ℕ) (h : Held K) (q : ℕ) (v : K) → HolderAs t x o h → h ≡ by q v → (o ≡ Some q) × (value_of (pending_of t q) x ≡ Some v)
-holder_of t x o h q v a b = grind (arith, nat_tests)
+holder_of t x o h q v a b = grind arith
 
 module _ {K : Type 0} (e : K) (number : ℕ → ℕ) (t : Tables K) (s : State K) (v : View e number t s) where
   -- no other process holds
@@ -185,21 +185,21 @@ module _ {K : Type 0} (e : K) (number : ℕ → ℕ) (t : Tables K) (s : State K
       own_holder (object_at e t x).holder a.0 h
     where
       own_holder : (o : Option ℕ) → o ≡ Some q → foreign o p ≡ false → q ≡ p
-      own_holder o n f = grind (arith, nat_tests)
+      own_holder o n f = grind arith
 
   -- what p has seen is the present stamp
   pub same_to : (p x : ℕ) → SeenAs (value_of (read_set t p) x) (s.seen p x) → differs (value_of (read_set t p) x) (object_at e t x).stamp ≡ false → Same s p x
   same_to p x a d u w k = present (value_of (read_set t p) x) a d ∙ sym (v.stamps x)
     where
       present : (o : Option ℕ) → SeenAs o (s.seen p x) → differs o (object_at e t x).stamp ≡ false → u ≡ (object_at e t x).stamp
-      present o a d = grind (arith, nat_tests)
+      present o a d = grind arith
 
   -- p holds an object whose pair is pending
   pub held_mine : (p x : ℕ) (w : K) → value_of (pending_of t p) x ≡ Some w → s.held x ≡ by p w
   held_mine p x w h = go (object_at e t x).holder (v.holds p x w h) (v.held x)
     where
       go : (o : Option ℕ) → o ≡ Some p → HolderAs t x o (s.held x) → s.held x ≡ by p w
-      go o n a = grind (arith, nat_tests)
+      go o n a = grind arith
 
   -- nobody holds an object that no other process holds and that is not pending
   pub held_nobody : (p x : ℕ) → foreign (object_at e t x).holder p ≡ false → value_of (pending_of t p) x ≡ None → s.held x ≡ nobody
