@@ -119,11 +119,7 @@ module _ {K : Type 0} where
   pub sees_after : (m : Alone K) (ds : List (Operation K)) (x : ℕ) → shows (fed m (started ds)) x ≡ after m.own ds x
   sees_after m [] x = refl
   sees_after m (got y v ∷ ds) x = sees_after m ds x
-  sees_after m (set y v ∷ ds) x = go (eqb y x) (sees_after m ds x)
-    where
-      go : (b : Bool) → shows (fed m (started ds)) x ≡ after m.own ds x
-          → first (cond b (Some v) ((fed m (started ds)).pend x)) ((fed m (started ds)).own x) ≡ cond b v (after m.own ds x)
-      go b h = grind arith
+  sees_after m (set y v ∷ ds) x = grind (arith, sees_after m ds x)
 
   pub gotten_results : (m : Alone K) (ds : List (Operation K)) → Agrees m.own ds → gotten m (started ds) ≡ results ds
   gotten_results m [] a = refl

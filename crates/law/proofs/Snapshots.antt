@@ -37,10 +37,7 @@ chain_in : (over : ℕ → ℕ → Mark) (maker : ℕ → ℕ) (x : ℕ) → ((i
     → (i : ℕ) × (h : ℕ) × (0 < i) × (i ≤ k) × (over i x ≡ some h) × (maker i ≡ u)
 chain_in over maker x older u k [] c i = absurd i
 chain_in over maker x older u k (t ∷ ts) c (inl e) = (k, c.0, c.1, omega arith, c.2, c.3 ∙ sym e)
-chain_in over maker x older u k (t ∷ ts) c (inr i) =
-    let d = chain_in over maker x older u c.0 ts c.4 i in
-    let l = older k c.0 c.2 in
-    let m = d.3 in (d.0, d.1, d.2, omega arith, d.4, d.5)
+chain_in over maker x older u k (t ∷ ts) c (inr i) = grind (arith, chain_in over maker x older u c.0 ts c.4 i)
 
 chain_newer : (over : ℕ → ℕ → Mark) (maker : ℕ → ℕ) (x : ℕ) → ((i h : ℕ) → over i x ≡ some h → h < i) → (u m k : ℕ) (ts : List ℕ) → Chain over maker x k ts → NewerBy u m ts
     → (i : ℕ) × (h : ℕ) × (n : ℕ) × (i ≤ k) × (over i x ≡ some h) × (maker i ≡ u) × (0 < n) × (n < i) × (maker n ≡ m)
@@ -49,10 +46,7 @@ chain_newer over maker x older u m k (t ∷ ts) c (inl e) =
     let d = chain_in over maker x older m c.0 ts c.4 e.1 in
     let l = older k c.0 c.2 in
     let n = d.3 in (k, c.0, d.0, omega arith, c.2, c.3 ∙ sym e.0, d.2, omega arith, d.5)
-chain_newer over maker x older u m k (t ∷ ts) c (inr i) =
-    let d = chain_newer over maker x older u m c.0 ts c.4 i in
-    let l = older k c.0 c.2 in
-    let n = d.3 in (d.0, d.1, d.2, omega arith, d.4, d.5, d.6, d.7, d.8)
+chain_newer over maker x older u m k (t ∷ ts) c (inr i) = grind (arith, chain_newer over maker x older u m c.0 ts c.4 i)
 
 module _ {K : Type 0} (P : ℕ) (start : ℕ → K) (b : ℕ → ℕ) (j : Trace K) (es : List (Event K)) (lawful : Lawful P start b es) (c : Matches start b j es) where
   bound : (t : ℕ) (a : Access) → events.In a ((history es).log t) → events.version a ≤ (history es).seals

@@ -180,8 +180,4 @@ module _ (makers taken : ℕ → List ℕ) (stored_at : ℕ → ℕ → Option �
               elim (known_or (stored_at t x)) [ inl d ↦ d | inr d ↦ absurd (true≢false (sym (c.storers t x d) ∙ open')) ],
             ),
           )
-      coming x false e =
-          elim (c.due x) [
-            | inl d ↦ inl d
-            | inr d ↦ inr (d.0, subst (Due taken stored_at x) (sym (put_other maker (suc n) t (latest x) (λ q. let k = newest x in let i = q in omega arith))) d.1)
-          ]
+      coming x false e = grind arith

@@ -61,8 +61,7 @@ value_first s ss x = elim (cases_Bool (eqb s.object x)) [ inl e ↦ simp e | inr
 -- an object has a value exactly where it is named
 pub value_among : {V : Type 0} (xs : List (Slot V)) (x : ℕ) → is_some (value_of xs x) ≡ among x (names xs)
 value_among [] x = refl
-value_among (s ∷ ss) x =
-    elim (cases_Bool (eqb s.object x)) [ inl e ↦ simp e | inr e ↦ simp e (value_among ss x) ]
+value_among (s ∷ ss) x = grind (arith, value_among ss x)
 
 pub distinct_apart : {V : Type 0} (xs : List (Slot V)) → distinct xs ≡ apart (names xs)
 distinct_apart [] = refl
