@@ -1,7 +1,6 @@
 -- Each part of a step keeps a memory good.
 use Rattle.std.proofs.Common.{◌≡◌, ℕ, ◌+◌, ◌-◌, ◌*◌, ◌^◌, ◌<◌, ◌≤◌, true, false, cond, ◌&&◌, eqb, ltb, leb, List, [], ◌∷◌, ◌++◌, length, get_or, set, is_some, Some, None, Option, sym, refl, ap, ◌∙◌, inl, inr, arith}
 use Rattle.std.proofs.lemmas.Bool.{cases_lt, and_parts, and_from, leb-true, cond_both, lt-ltb}
-use Rattle.std.proofs.lemmas.Bool.Decides.{nat_tests}
 use Rattle.std.proofs.lemmas.List.{get_or_past}
 use Rattle.tables.specs.Lookup.{pair, value_of, place_of}
 use Rattle.tables.specs.Tables.{Tables, process_at, hand_at, read_set, write_set, with_process, with_object, with_read, with_write, with_hand, blank_object, sizes_ok}
@@ -31,8 +30,7 @@ pub record Sizes {K : Type 0} (t : Tables K) : Type 0 where
   pub hands : length t.hands ≡ length t.processes
 
 pub sizes_facts : {K : Type 0} (t : Tables K) → sizes_ok t ≡ true → Sizes t
-sizes_facts t h =
-    record { few = grind (arith, nat_tests); reads = grind (arith, nat_tests); writes = grind (arith, nat_tests); hands = grind (arith, nat_tests) }
+sizes_facts t h = grind arith
 
 -- the pairs of a sound record name objects
 pub sound_of : {K : Type 0} (e : K) (t : Tables K) (p : ℕ) → Good e t → p < length t.processes → Sound e t p

@@ -1,5 +1,5 @@
 -- A step that changes its process's own row alone: no object, no holder and no pending content. The bank may grow.
-use Rattle.std.proofs.Common.{◌≡◌, ℕ, ◌≤◌, ◌⊎◌, List, get_or, Some, None, Option, sym, ap, ◌∙◌, subst, inl, inr, arith}
+use Rattle.std.proofs.Common.{◌≡◌, ℕ, ◌≤◌, ◌⊎◌, List, get_or, Option, sym, ap, ◌∙◌, subst, inl, inr, arith}
 use Rattle.std.proofs.lemmas.Bool.{cases_eq}
 use Rattle.tables.specs.Lookup.{value_of}
 use Rattle.tables.specs.Tables.{Tables, process_at, object_at, hand_at, read_set, blank_object}
@@ -15,8 +15,7 @@ use Rattle.refinement.proofs.View.{pending_of, HolderAs, RowAs, View, other_pend
 
 -- a holder, over tables with the same pending contents
 pub holder_at : {K : Type 0} (t u : Tables K) (x : ℕ) (o : Option ℕ) (h : Held K) → ((q : ℕ) → pending_of u q ≡ pending_of t q) → HolderAs t x o h → HolderAs u x o h
-holder_at t u x None h same a = a
-holder_at t u x (Some q) h same a = (a.0, ap (λ (l : List (Slot _)). value_of l x) (same q) ∙ a.1, a.2)
+holder_at t u x o h same a = grind arith
 
 -- the clock covers what q holds, over an equal row
 covered_at : {K : Type 0} (s z : State K) (q x : ℕ) (v : K) → row z q ≡ row s q → (s.phase q ≡ running → (s.stamp x ≤ s.clock q) ⊎ (s.stamp x ≤ s.need q)) → z.stamp x ≡ s.stamp x → z.phase q ≡ running → (z.stamp x ≤ z.clock q) ⊎ (z.stamp x ≤ z.need q)

@@ -59,11 +59,7 @@ module _ {K : Type 0} (e : K) (number : ℕ → ℕ) (t : Tables K) (s : State K
   rests_on r rs c a = record { phase = a.phase; seen = a.seen; clock = a.clock ∙ sym c; hand = a.hand; level = a.level }
 
   first_row : (q : Request K) (h : K) → Rests (process_at t p) (read_set t p) (row s p) → (q ≡ ask.Begin → ⊥) → LiveAs number (placed (process_at t p) q) (read_set t p) h (first_phase q) (row s p)
-  first_row ask.Begin h a n = absurd (n refl)
-  first_row (ask.Read x) h a n = rests_on (placed {K = K} (process_at t p) (ask.Read x)) (read_set t p) refl a
-  first_row (ask.Write x w) h a n = rests_on (placed {K = K} (process_at t p) (ask.Write x w)) (read_set t p) refl a
-  first_row ask.Commit h a n = inl (refl, refl, rests_on (placed {K = K} (process_at t p) ask.Commit) (read_set t p) refl a)
-  first_row ask.Withdraw h a n = inl (refl, refl, rests_on (placed {K = K} (process_at t p) ask.Withdraw) (read_set t p) refl a)
+  first_row q h a n = grind arith
 
   none_gone : (q : Request K) → gone (first_phase q) ≡ 0
   none_gone q = grind arith

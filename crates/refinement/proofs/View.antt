@@ -114,15 +114,7 @@ pub record View {K : Type 0} (e : K) (number : ℕ → ℕ) (t : Tables K) (s : 
 
 -- the bank's numbers grow
 live_grows : {K : Type 0} (number larger : ℕ → ℕ) (r : Process) (rs : List (Slot ℕ)) (h : K) (f : Phase) (w : Row K) → ((q : ℕ) → number q ≤ larger q) → LiveAs number r rs h f w → LiveAs larger r rs h f w
-live_grows number larger r rs h Idle w g a = a
-live_grows number larger r rs h (Beginning next least) w g a = (a.0, λ q l. let b = a.1 q l in let c = g q in omega arith, a.2, a.3)
-live_grows number larger r rs h (Reading x) w g a = a
-live_grows number larger r rs h (Writing x) w g a = a
-live_grows number larger r rs h (Extending x to next access.Read) w g a = a
-live_grows number larger r rs h (Extending x to next access.Write) w g a = a
-live_grows number larger r rs h (Certifying next) w g a = a
-live_grows number larger r rs h (Storing next) w g a = a
-live_grows number larger r rs h (Freeing next ending) w g a = a
+live_grows number larger r rs h f w g a = grind arith
 
 row_grows : {K : Type 0} (number larger : ℕ → ℕ) (r : Process) (rs : List (Slot ℕ)) (h : K) (b : Bool) (w : Row K) → ((q : ℕ) → number q ≤ larger q) → RowAs number r rs h b w → RowAs larger r rs h b w
 row_grows number larger r rs h true w g a = live_grows number larger r rs h r.phase w g a
@@ -180,19 +172,11 @@ holder_of t x o h q v a b = grind arith
 module _ {K : Type 0} (e : K) (number : ℕ → ℕ) (t : Tables K) (s : State K) (v : View e number t s) where
   -- no other process holds
   pub open_to : (p x : ℕ) → foreign (object_at e t x).holder p ≡ false → Open s p x
-  open_to p x h q w k =
-      let a = holder_of t x (object_at e t x).holder (s.held x) q w (v.held x) k in
-      own_holder (object_at e t x).holder a.0 h
-    where
-      own_holder : (o : Option ℕ) → o ≡ Some q → foreign o p ≡ false → q ≡ p
-      own_holder o n f = grind arith
+  open_to p x h q w k = grind arith
 
   -- what p has seen is the present stamp
   pub same_to : (p x : ℕ) → SeenAs (value_of (read_set t p) x) (s.seen p x) → differs (value_of (read_set t p) x) (object_at e t x).stamp ≡ false → Same s p x
-  same_to p x a d u w k = present (value_of (read_set t p) x) a d ∙ sym (v.stamps x)
-    where
-      present : (o : Option ℕ) → SeenAs o (s.seen p x) → differs o (object_at e t x).stamp ≡ false → u ≡ (object_at e t x).stamp
-      present o a d = grind arith
+  same_to p x a d u w k = grind arith
 
   -- p holds an object whose pair is pending
   pub held_mine : (p x : ℕ) (w : K) → value_of (pending_of t p) x ≡ Some w → s.held x ≡ by p w
