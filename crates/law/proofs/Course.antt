@@ -1,10 +1,8 @@
 -- The tables of a memory, its bank and the trace of its run stand together; every call keeps them so.
-use Rattle.std.proofs.Common.{◌≡◌, ℕ, suc, ◌+◌, ◌-◌, ◌*◌, ◌^◌, ◌<◌, ◌≤◌, Bool, true, false, cond, eqb, ◌⊎◌, List, [], ◌∷◌, ◌++◌, length, get_or, drop, Some, None, Ok, Option, sym, refl, ap, ◌∙◌, subst, inl, inr, arith, rules}
+use Rattle.std.proofs.Common.{◌≡◌, ℕ, suc, ◌+◌, ◌-◌, ◌*◌, ◌^◌, ◌<◌, ◌≤◌, Bool, true, false, cond, eqb, ◌⊎◌, List, [], ◌∷◌, ◌++◌, length, get_or, drop, Some, None, Ok, Option, sym, refl, ap, ◌∙◌, subst, inl, inr, arith}
 use Rattle.std.proofs.lemmas.List.{append_assoc, get_or-map, get_or_past, get_or-replicate, length-map, length-replicate}
 use Rattle.std.proofs.lemmas.Bool.{cases_eq, cases_lt, eq-eqb, cond-true, not-true}
 use Rattle.std.proofs.lemmas.Option.{same_Some, none-some}
-use Rattle.std.proofs.lemmas.Bool.Decides.{nat_tests}
-use Rattle.std.proofs.lemmas.Grind.{common_steps}
 use Rattle.tables.specs.Fresh.{unheld, fresh_tables}
 use Rattle.tables.specs.Lookup.{value_of}
 use Rattle.tables.specs.Tables.{Tables, process_at, object_at, hand_at, read_set, write_set, idle_process, blank_object, numbers_ok}
@@ -451,30 +449,7 @@ module _ {K : Type 0} (e : K) (number : ℕ → ℕ) (contents : List K) (n : �
   unheld_by h = cc
 
   fresh_matches : Matches opening number [] []
-  fresh_matches =
-      record {
-        base =
-            record {
-              counts = refl;
-              who = λ p u h. cc;
-              core =
-                  record {
-                    ends = record { ends = λ t h. cc h.1; before = λ t u h. cc h.2 };
-                    seals = record { known = λ t h. cc h.1; noted_too = λ t h. cc; made = λ i l m. absurd (omega arith) };
-                    bases = record { above = λ t i l m h. absurd (omega arith); since = λ t i l m k h. absurd (omega arith) };
-                    versions = record { line = λ x. refl; wrote = λ t x. refl; due = λ x. inl refl; storers = λ t x h. cc h.1 };
-                    logs = record { reads = λ t r m h k. absurd h; held = λ t h k. absurd k; dated = λ t. tt; replaced = λ i h l m k. absurd (omega arith) };
-                    ops = record { gets = λ t. refl; asks = λ t h. cc };
-                    contents = record { present = λ x. refl; genuine = λ t r m h k. absurd h };
-                    logged = λ t a h. absurd h;
-                    owing = record { owes = λ p x v u h k. absurd (unheld_by k) };
-                  };
-              ordered = λ t h. cc;
-              standing = λ p h. absurd (h refl);
-            };
-        certs = record { known = λ t h. cc h.1; later = λ i l. absurd (omega arith); ordered = λ h i l m. absurd (omega arith) };
-        certified = λ p m f o h. absurd (o refl);
-      }
+  fresh_matches = grind arith
 
   fresh_watch : Watch opening number [] []
   fresh_watch =

@@ -1,9 +1,7 @@
 -- An abort has a reason: another transaction held the object that it names, while both were open.
-use Rattle.std.proofs.Common.{◌≡◌, ℕ, suc, ◌<◌, ◌≤◌, Bool, true, false, cond, ◌&&◌, ◌⊎◌, List, [], ◌∷◌, length, Some, None, Option, sym, refl, ap, ◌∙◌, subst, inl, inr, arith, rules}
+use Rattle.std.proofs.Common.{◌≡◌, ℕ, suc, ◌<◌, ◌≤◌, Bool, true, false, cond, ◌&&◌, ◌⊎◌, List, [], ◌∷◌, length, Some, None, Option, sym, refl, ap, ◌∙◌, inl, inr, arith}
 use Rattle.std.proofs.lemmas.Bool.{cases_eq, cond-true}
 use Rattle.std.proofs.lemmas.Option.{none-some}
-use Rattle.std.proofs.lemmas.Bool.Decides.{nat_tests}
-use Rattle.std.proofs.lemmas.Grind.{common_steps}
 use Rattle.tables.specs.declared.reply.Conflict.{Conflict}
 use Rattle.tables.specs.declared.reply.Conflict.TheVariants as conflict
 use Rattle.protocol.specs.Table.{put}
@@ -11,7 +9,6 @@ use Rattle.protocol.specs.Protocol.{Phase, Held, Event, state}
 use Rattle.protocol.specs.Protocol.Held.{nobody, by}
 use Rattle.protocol.specs.Protocol.Phase.{out, aborting}
 use Rattle.protocol.specs.History.{history}
-use Rattle.protocol.proofs.Updates.{put_same, put_other, put_is}
 use Rattle.protocol.proofs.Freshness.{FreshOf}
 use Rattle.law.specs.Trace.{Act, Entry, Trace}
 use Rattle.law.specs.Ledger.{first, among, count, belongs, first_at, begins as begins_now, placed_at, ended_at, stored_at, freed_at, taken, holds, effect_of, hold}
@@ -54,16 +51,7 @@ module _ {K : Type 0} where
       }
 
   held_more : (l : Entry K) (j : Trace K) (u x n : ℕ) → n < length j → HeldAt j u x n → HeldAt (l ∷ j) u x n
-  held_more l j u x n k h = (
-    h.0,
-    push_keeps h.0 (hold j (effect_of l.act).takes) (belongs l j u) (holds j u) h.1,
-    h.2,
-    h.3,
-    record {
-      stores = λ m e. elim (first_late _ l j u m e) [ inl d ↦ h.4.stores m d | inr d ↦ omega arith ];
-      frees = λ m e. elim (first_late _ l j u m e) [ inl d ↦ h.4.frees m d | inr d ↦ omega arith ];
-    },
-  )
+  held_more l j u x n k h = grind arith
 
   pub disturbed_more : (l : Entry K) (j : Trace K) (t x : ℕ) → Disturbed j t x → Disturbed (l ∷ j) t x
   disturbed_more l j t x d =
@@ -113,47 +101,17 @@ module _ {K : Type 0} where
   module _ (phase : ℕ → Phase) (held : ℕ → Held K) (current : ℕ → ℕ) (taken : ℕ → List ℕ) (stored_at freed_at : ℕ → ℕ → Option ℕ) (c : Holding phase held current taken stored_at freed_at) where
     -- p comes into another phase
     pub holding_turn : (p : ℕ) (f : Phase) → ((f ≡ out → ⊥) → (f ≡ aborting → ⊥) → (phase p ≡ out → ⊥) × (phase p ≡ aborting → ⊥)) → Holding (put phase p f) held current taken stored_at freed_at
-    holding_turn p f was =
-        record {
-          keeps = c.keeps;
-          unfreed = λ q o a x.
-              elim (cases_eq p q) [
-                | inl e ↦
-                    (let k = was (λ i. o (put_same phase p f q e ∙ i)) (λ i. a (put_same phase p f q e ∙ i)) in
-                    c.unfreed q (λ i. k.0 (ap phase e ∙ i)) (λ i. k.1 (ap phase e ∙ i)) x)
-                | inr e ↦ c.unfreed q (λ i. o (put_other phase p f q e ∙ i)) (λ i. a (put_other phase p f q e ∙ i)) x
-              ];
-        }
+    holding_turn p f was = grind arith
 
     -- p writes x, with more on record as taken
     pub holding_write : (p x : ℕ) (v : K) (taken' : ℕ → List ℕ) → ((u y : ℕ) → among y (taken u) ≡ true → among y (taken' u) ≡ true)
         → (among x (taken' (current p)) ≡ true) × (stored_at (current p) x ≡ None) × (freed_at (current p) x ≡ None) → Holding phase (put held x (by p v)) current taken' stored_at freed_at
-    holding_write p x v taken' more mine =
-        record {
-          keeps = λ q y w h.
-              elim (put_is held x (by p v) y (by q w) h) [
-                | inl d ↦
-                    (let k = d.1 in
-                    let e : p ≡ q = cc in
-                    subst (λ (n : ℕ). (among n (taken' (current q)) ≡ true) × (stored_at (current q) n ≡ None) × (freed_at (current q) n ≡ None)) d.0
-                    (subst (λ (n : ℕ). (among x (taken' (current n)) ≡ true) × (stored_at (current n) x ≡ None) × (freed_at (current n) x ≡ None)) e mine))
-                | inr d ↦ (let k = c.keeps q y w d.1 in (more (current q) y k.0, k.1, k.2))
-              ];
-          unfreed = c.unfreed;
-        }
+    holding_write p x v taken' more mine = grind arith
 
     -- x is let go
     pub holding_release : (x : ℕ) (stored' freed' : ℕ → ℕ → Option ℕ) → ((u y : ℕ) → (x ≡ y → ⊥) → stored' u y ≡ stored_at u y) → ((u y : ℕ) → (x ≡ y → ⊥) → freed' u y ≡ freed_at u y)
         → ((q : ℕ) → (phase q ≡ out → ⊥) → (phase q ≡ aborting → ⊥) → (y : ℕ) → freed' (current q) y ≡ freed_at (current q) y) → Holding phase (put held x nobody) current taken stored' freed'
-    holding_release x stored' freed' ss fs others =
-        record {
-          keeps = λ q y w h.
-              elim (put_is held x nobody y (by q w) h) [
-                | inl d ↦ absurd (let k = d.1 in cc)
-                | inr d ↦ (let k = c.keeps q y w d.1 in (k.0, ss (current q) y d.0 ∙ k.1, fs (current q) y d.0 ∙ k.2))
-              ];
-          unfreed = λ q o a y. others q o a y ∙ c.unfreed q o a y;
-        }
+    holding_release x stored' freed' ss fs others = grind arith
 
   -- the reasons for aborts that a trace shows
   pub record Watch (start : ℕ → K) (b : ℕ → ℕ) (j : Trace K) (es : List (Event K)) : Type 0 where

@@ -1,9 +1,7 @@
 -- A step of the engine keeps all that is on record in agreement with the protocol.
-use Rattle.std.proofs.Common.{◌≡◌, ℕ, suc, ◌<◌, true, false, cond, eqb, ◌⊎◌, List, [], ◌∷◌, ◌++◌, length, Some, Option, sym, refl, ap, ◌∙◌, subst, inl, inr, arith, rules}
+use Rattle.std.proofs.Common.{◌≡◌, ℕ, suc, ◌<◌, true, false, cond, eqb, ◌⊎◌, List, [], ◌∷◌, ◌++◌, length, Some, Option, sym, refl, ap, ◌∙◌, subst, inl, inr, arith}
 use Rattle.std.proofs.lemmas.List.{append_assoc}
 use Rattle.std.proofs.lemmas.Bool.{cases_eq, cases_Bool, ne_eqb}
-use Rattle.std.proofs.lemmas.Bool.Decides.{nat_tests}
-use Rattle.std.proofs.lemmas.Grind.{common_steps}
 use Rattle.tables.specs.declared.reply.Answer.{Answer}
 use Rattle.tables.specs.declared.reply.Conflict.{Conflict}
 use Rattle.tables.specs.declared.reply.Request.{Request}
@@ -22,35 +20,6 @@ use Rattle.protocol.proofs.Laws.{all}
 use Rattle.protocol.proofs.Sequence.{sequence}
 use Rattle.refinement.proofs.Acts.{Block, Act}
 use Rattle.refinement.proofs.Acts.Act.{plain, certifying_first, withdrawing_first}
-use Rattle.refinement.proofs.Acts.Block.{
-  reads_bank,
-  begins,
-  reads_own,
-  reads_now,
-  reads_later,
-  reads_waits,
-  extends_read,
-  reads_extended,
-  rewrites,
-  takes_now,
-  takes_later,
-  takes_waits,
-  extends_write,
-  writes_extended,
-  passes,
-  passes_last,
-  commits_nothing,
-  seals,
-  stores,
-  stores_last,
-  stops,
-  aborts,
-  frees,
-  aborts_freed,
-  aborts_empty,
-  withdraws_freed,
-  withdraws_empty,
-}
 use Rattle.law.specs.Trace.{Trace, entry}
 use Rattle.law.specs.Trace.Act.{made}
 use Rattle.law.specs.Ledger.{Found, Desk, Hold, first, is, among, count, whose, wrote, makers, latest, taken, holds, requests, desk, desk_on, certified_at}
@@ -80,33 +49,7 @@ module _ {K : Type 0} where
 
   module _ (start : ℕ → K) (b : ℕ → ℕ) (es : List (Event K)) (p : ℕ) where
     pub leaves : {r : Request K} {n : ℕ} {o o' : Option Conflict} {z : Stepped K} {fs : List (Event K)} → Block (state start b es) p r n o z fs o' → Leaves p fs es
-    leaves (reads_bank n) = record { within = tt; begun = refl; current = refl; certs = refl; order = refl }
-    leaves (begins n k) = record { within = (refl, tt, tt); begun = refl; current = refl; certs = refl; order = refl }
-    leaves (reads_own x v n z) = record { within = (refl, tt, tt); begun = refl; current = refl; certs = refl; order = refl }
-    leaves (reads_now x k v n z) = record { within = (refl, tt, (refl, tt, tt)); begun = refl; current = refl; certs = refl; order = refl }
-    leaves (reads_later x k v n z) = record { within = (refl, tt, (refl, tt, (refl, tt, tt))); begun = refl; current = refl; certs = refl; order = refl }
-    leaves (reads_waits x v n z) = record { within = (refl, tt, tt); begun = refl; current = refl; certs = refl; order = refl }
-    leaves (extends_read x y n) = record { within = (refl, tt, tt); begun = refl; current = refl; certs = refl; order = refl }
-    leaves (reads_extended x k v y n) = record { within = (refl, tt, (refl, tt, (refl, tt, tt))); begun = refl; current = refl; certs = refl; order = refl }
-    leaves (rewrites x v w n z h) = record { within = (refl, tt, tt); begun = refl; current = refl; certs = refl; order = refl }
-    leaves (takes_now x v n z h) = record { within = (refl, tt, tt); begun = refl; current = refl; certs = refl; order = refl }
-    leaves (takes_later x v n z h) = record { within = (refl, tt, (refl, tt, tt)); begun = refl; current = refl; certs = refl; order = refl }
-    leaves (takes_waits x v n z h) = record { within = (refl, tt, tt); begun = refl; current = refl; certs = refl; order = refl }
-    leaves (extends_write x v y n l) = record { within = (refl, tt, tt); begun = refl; current = refl; certs = refl; order = refl }
-    leaves (writes_extended x v y n l) = record { within = (refl, tt, (refl, tt, tt)); begun = refl; current = refl; certs = refl; order = refl }
-    leaves (passes y n) = record { within = (refl, tt, tt); begun = refl; current = refl; certs = refl; order = refl }
-    leaves (passes_last y n) = record { within = (refl, tt, (refl, tt, (refl, tt, tt))); begun = refl; current = refl; certs = refl; order = refl }
-    leaves (commits_nothing n) = record { within = (refl, tt, (refl, tt, tt)); begun = refl; current = refl; certs = refl; order = refl }
-    leaves (seals t k n) = record { within = (refl, tt, tt); begun = refl; current = refl; certs = refl; order = refl }
-    leaves (stores x v t n) = record { within = (refl, tt, tt); begun = refl; current = refl; certs = refl; order = refl }
-    leaves (stores_last x v t n) = record { within = (refl, tt, (refl, tt, tt)); begun = refl; current = refl; certs = refl; order = refl }
-    leaves (stops r k n) = record { within = (refl, tt, tt); begun = refl; current = refl; certs = refl; order = refl }
-    leaves (aborts r k n) = record { within = (refl, tt, (refl, tt, tt)); begun = refl; current = refl; certs = refl; order = refl }
-    leaves (frees r o x v n) = record { within = (refl, tt, tt); begun = refl; current = refl; certs = refl; order = refl }
-    leaves (aborts_freed r k x v n) = record { within = (refl, tt, (refl, tt, tt)); begun = refl; current = refl; certs = refl; order = refl }
-    leaves (aborts_empty r k n) = record { within = (refl, tt, tt); begun = refl; current = refl; certs = refl; order = refl }
-    leaves (withdraws_freed x v n) = record { within = (refl, tt, (refl, tt, tt)); begun = refl; current = refl; certs = refl; order = refl }
-    leaves (withdraws_empty n) = record { within = (refl, tt, tt); begun = refl; current = refl; certs = refl; order = refl }
+    leaves h = grind arith
 
     newly : (P : ℕ) {r : Request K} {n : ℕ} {o o' : Option Conflict} {z : Stepped K} {fs : List (Event K)} → Block (state start b es) p r n o z fs o' → LawfulFrom P (state start b es) fs
         → (u : ℕ) → (commits_of (fs ++ es)).sealed u ≡ true → ((commits_of es).sealed u ≡ true) ⊎ (((history es).current p ≡ u) × ((state start b es).phase p ≡ certifying))

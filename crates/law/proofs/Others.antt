@@ -1,9 +1,7 @@
 -- A step of one process leaves the transactions of the others as they stand on record.
-use Rattle.std.proofs.Common.{◌≡◌, ℕ, suc, ◌<◌, ◌≤◌, Bool, true, false, ◌&&◌, eqb, List, ◌∷◌, Option, sym, refl, ap, inl, inr, arith, rules}
+use Rattle.std.proofs.Common.{◌≡◌, ℕ, suc, ◌<◌, ◌≤◌, Bool, true, false, ◌&&◌, eqb, List, ◌∷◌, Option, sym, refl, ap, inl, inr, arith}
 use mathlib.Core.Path.{transport}
 use Rattle.std.proofs.lemmas.Bool.{ne_eqb, cond-false, and_right}
-use Rattle.std.proofs.lemmas.Bool.Decides.{nat_tests}
-use Rattle.std.proofs.lemmas.Grind.{common_steps}
 use Rattle.tables.specs.declared.reply.Request.{Request}
 use Rattle.tables.specs.declared.reply.Stepped.{Stepped}
 use Rattle.protocol.specs.Table.{put}

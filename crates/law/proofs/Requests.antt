@@ -1,9 +1,7 @@
 -- The requests on record, the operations of the protocol, and the run alone.
-use Rattle.std.proofs.Common.{◌≡◌, ℕ, zero, suc, Bool, true, false, cond, eqb, List, [], ◌∷◌, ◌++◌, Some, sym, refl, ap, ◌∙◌, subst, inl, inr, arith, rules}
+use Rattle.std.proofs.Common.{◌≡◌, ℕ, zero, suc, Bool, true, false, cond, eqb, List, [], ◌∷◌, ◌++◌, sym, refl, ap, ◌∙◌, subst, inl, inr, arith}
 use mathlib.Core.Path.{fun_ext}
 use Rattle.std.proofs.lemmas.Bool.{true≢false, cases_eq}
-use Rattle.std.proofs.lemmas.Bool.Decides.{nat_tests}
-use Rattle.std.proofs.lemmas.Grind.{common_steps}
 use Rattle.tables.specs.declared.reply.Request.{Request}
 use Rattle.tables.specs.declared.reply.Request.TheVariants.{Begin, Read, Write, Commit, Withdraw}
 use Rattle.protocol.specs.Table.{put}
@@ -13,7 +11,7 @@ use Rattle.protocol.specs.Alone.{Operation, after, Agrees, memory, Replays}
 use Rattle.protocol.specs.Alone.Operation.{got, set}
 use Rattle.protocol.proofs.Updates.{put_same, put_other, put_when}
 use Rattle.law.specs.Trace.{Trace}
-use Rattle.law.specs.Ledger.{Reading, Desk, first, requests, readings}
+use Rattle.law.specs.Ledger.{Reading, Desk, requests, readings}
 use Rattle.law.specs.Ledger.Desk.{free, asked}
 use Rattle.law.specs.Law.{In, Alone, shows, fed, gotten, alone, contents, SameReads}
 use Rattle.law.proofs.Traces.{when}
