@@ -45,9 +45,6 @@ module _ {K : Type 0} where
   -- by the phase
   module _ (start : ℕ → K) (makers : ℕ → List ℕ) (maker : ℕ → ℕ) (seals : ℕ) (operations : ℕ → List (Operation K)) (d : Desk K) (hand : Hand K) (fetched : ℕ)
       (begun : Option ℕ) (sealed : Bool) (rs : List (Request K)) (ds : List (Operation K)) (hs : List Hold) where
-    going_not : (f : Phase) → T (not (eqb (tag f) 1)) → T (not (eqb (tag f) 2)) → Going f → ⊥
-    going_not f a b g = grind arith
-
     pub in_starting : begun ≡ None → rs ≡ Begin ∷ [] → ds ≡ [] → Standing start makers maker seals operations d starting hand fetched begun sealed rs ds hs
     in_starting a b c = grind arith
 
