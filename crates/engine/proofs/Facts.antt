@@ -7,7 +7,6 @@ use Rattle.std.proofs.lemmas.List.Sums.{AllPass-from_list_all}
 use Rattle.tables.specs.declared.map.Slot.{Slot}
 use Rattle.tables.specs.declared.memory.Object.{Object}
 use Rattle.tables.specs.declared.process.Access.{Access}
-use Rattle.tables.specs.declared.process.Access.TheVariants as access
 use Rattle.tables.specs.declared.process.Phase.{Phase}
 use Rattle.tables.specs.declared.process.Phase.TheVariants.{Idle, Beginning, Reading, Writing, Extending, Certifying, Storing, Freeing}
 use Rattle.tables.specs.declared.process.Process.{Process}
@@ -24,18 +23,7 @@ named_at {V = V} e os m xs at n i d h l w =
     rw (← get_or-drop at xs i d, ← get_or-take n (drop at xs) i d w) (ltb-true _ _ (and_parts _ _ z).0)
 
 pub ready : {K : Type 0} (t : Tables K) (p : ℕ) → sizes_ok t ≡ true → p < length t.processes → counts_ok (process_at t p) ≡ true → Ready t p
-ready t p h l c =
-    record {
-      process = l;
-      few = grind (arith, nat_tests);
-      reads = grind (arith, nat_tests);
-      writes = grind (arith, nat_tests);
-      hands = grind (arith, nat_tests);
-      read_count = grind (arith, nat_tests);
-      write_count = grind (arith, nat_tests);
-      clock = grind (arith, nat_tests);
-      steps = grind (arith, nat_tests);
-    }
+ready t p h l c = grind arith
 
 pub sound_facts : {K : Type 0} (e : K) (t : Tables K) (p : ℕ) → Ready t p → sets_ok e t p ≡ true → Sound e t p
 sound_facts e t p k s =
@@ -53,8 +41,7 @@ value_place (s ∷ ss) x n =
     elim (cases_Bool (eqb s.object x)) [ inl e ↦ simp e | inr e ↦ simp e (value_place ss x (n + 1)) ]
 
 joins : {K : Type 0} (t : Tables K) (p x : ℕ) (a : Access) → access_room t p x a ≡ true → JoinsIn t p x a
-joins t p x access.Read h = λ v. ltb-true _ _ (simp v at h)
-joins t p x access.Write h = tt
+joins t p x a h = grind arith
 
 free_facts : (next n : ℕ) (ok : Bool) → ((eqb n 0 || ltb next n) && ok) ≡ true → 0 < n → next < n
 free_facts next n ok h l = grind (arith, nat_tests)

@@ -1,15 +1,13 @@
 -- No call of a run from a good memory is refused for the state of the tables.
-use Rattle.std.proofs.Common.{ℕ, ◌^◌, ◌≤◌, Bool, true, false, cond, ltb, List, [], ◌∷◌, length, Some, None, Option, sym, subst, inl, inr}
+use Rattle.std.proofs.Common.{ℕ, ◌^◌, ◌≤◌, Bool, cond, List, [], ◌∷◌, length, Some, None, Option, sym, subst, inl, inr, rules}
 use Rattle.std.proofs.lemmas.Bool.{cases_lt}
 use Rattle.tables.specs.Tables.{Tables, process_at}
 use Rattle.tables.specs.declared.process.Phase.{Phase}
-use Rattle.tables.specs.declared.process.Phase.TheVariants.{Idle, Beginning, Reading, Writing, Extending, Certifying, Storing, Freeing}
 use Rattle.tables.specs.declared.refusal.Refusal.{Refusal}
 use Rattle.tables.specs.declared.refusal.Refusal.TheVariants as refusal
 use Rattle.tables.specs.declared.reply.Request.{Request}
-use Rattle.tables.specs.declared.reply.Request.TheVariants as ask
 use Rattle.engine.specs.Place.{is_idle, due, object_no, request_no, first_no, place_no, place_unless, place_call}
-use Rattle.engine.specs.Sound.{refused, readable, writable}
+use Rattle.engine.specs.Sound.{refused}
 use Rattle.engine.specs.Step.{phase_step, step_unless, step_call}
 use Rattle.journal.specs.declared.call.Call.{Call}
 use Rattle.journal.specs.declared.call.Call.TheVariants.{Place, Step}
@@ -32,35 +30,20 @@ module _ {K : Type 0} (e : K) (t : Tables K) (p : ℕ) (g : Good e t) where
       ]
 
   phase_trusted : (number : ℕ → ℕ) (f : Phase) → Trusted (step_reply (phase_step e number t p f).reply)
-  phase_trusted number Idle = tt
-  phase_trusted number (Beginning next least) = tt
-  phase_trusted number (Reading x) = tt
-  phase_trusted number (Writing x) = tt
-  phase_trusted number (Extending x to next a) = tt
-  phase_trusted number (Certifying next) = tt
-  phase_trusted number (Storing next) = tt
-  phase_trusted number (Freeing next x) = tt
+  phase_trusted number f = search rules
 
   step_trusted : (number : ℕ → ℕ) (r : Option Refusal) → MaybeOfTheCall r → Trusted (step_reply (step_unless r e number t p).reply)
   step_trusted number None h = phase_trusted number (process_at t p).phase
   step_trusted number (Some q) h = h
 
   access_trusted : (a b : Bool) → MaybeOfTheCall (cond a (cond b None (Some refusal.Room)) (Some refusal.Object))
-  access_trusted true true = tt
-  access_trusted true false = tt
-  access_trusted false b = tt
+  access_trusted a b = search rules
 
   object_trusted : (q : Request K) → MaybeOfTheCall (object_no t p q)
-  object_trusted ask.Begin = tt
-  object_trusted (ask.Read x) = access_trusted (ltb x (length t.objects)) (readable t p x)
-  object_trusted (ask.Write x v) = access_trusted (ltb x (length t.objects)) (writable t p x)
-  object_trusted ask.Commit = tt
-  object_trusted ask.Withdraw = tt
+  object_trusted q = search rules
 
   request_trusted : (a b : Bool) (o : Option Refusal) → MaybeOfTheCall o → MaybeOfTheCall (cond a (cond b o (Some refusal.Transaction)) (Some refusal.InHand))
-  request_trusted true true o h = h
-  request_trusted true false o h = tt
-  request_trusted false b o h = tt
+  request_trusted a b o h = search rules
 
   both_trusted : (a b : Option Refusal) → MaybeOfTheCall a → MaybeOfTheCall b → MaybeOfTheCall (first_no a b)
   both_trusted None b h k = k

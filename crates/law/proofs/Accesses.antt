@@ -127,12 +127,7 @@ module _ {K : Type 0} where
 
           new : (u : ℕ) (q : Reading K) (m : Maker) → q.found ≡ of_version m → t ≡ u → q ≡ r
               → (k : ℕ) × history.In (rd q.object k) (put log t (rd r.object i ∷ log t) u) × (m ≡ name maker k)
-          new u q m e n s =
-              let x : of_version m ≡ of_version (name maker i) = sym e ∙ ap (λ (y : Reading K). y.found) s ∙ is' in (
-                i,
-                subst (λ (y : ℕ). history.In (rd y i) (put log t (rd r.object i ∷ log t) u)) (ap (λ (y : Reading K). y.object) (sym s)) (new_in u (rd r.object i) n),
-                (cc),
-              )
+          new u q m e n s = grind arith
 
           was_read : (u : ℕ) (q : Reading K) (m : Maker) → q.found ≡ of_version m → (t ≡ u) ⊎ (t ≡ u → ⊥) → In q (reads_too r u)
               → (k : ℕ) × history.In (rd q.object k) (put log t (rd r.object i ∷ log t) u) × (m ≡ name maker k)

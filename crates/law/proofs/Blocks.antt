@@ -1,6 +1,6 @@
 -- Each block of events that a step shows keeps what is on record in agreement with the protocol.
-use Rattle.std.proofs.Common.{◌≡◌, ℕ, zero, suc, ◌+◌, ◌<◌, ◌≤◌, Bool, true, cond, eqb, List, [], ◌∷◌, ◌++◌, length, Some, None, Option, sym, refl, ap, ◌∙◌, subst, inl, inr, arith}
-use Rattle.std.proofs.lemmas.Bool.{eq-eqb, cond-true}
+use Rattle.std.proofs.Common.{◌≡◌, ℕ, suc, ◌+◌, ◌<◌, ◌≤◌, Bool, true, cond, List, [], ◌∷◌, ◌++◌, length, Some, None, Option, sym, refl, ap, ◌∙◌, subst, inl, inr, arith}
+use Rattle.std.proofs.lemmas.Bool.{true≢false}
 use Rattle.tables.specs.declared.reply.Conflict.{Conflict}
 use Rattle.tables.specs.declared.reply.Request.{Request}
 use Rattle.tables.specs.declared.reply.Request.TheVariants.{Begin, Read, Write}
@@ -58,7 +58,7 @@ use Rattle.law.specs.Ledger.Found.{version}
 use Rattle.law.specs.Ledger.Desk.{free, asked}
 use Rattle.law.specs.Law.{In, Known}
 use Rattle.law.proofs.Times.{noted_has}
-use Rattle.law.proofs.Traces.{when, true_false, desk_new, hold_taken, among_in}
+use Rattle.law.proofs.Traces.{when, desk_new, hold_taken, among_in}
 use Rattle.law.proofs.Versions.{name}
 use Rattle.law.proofs.Requests.{AsksAs, todo, started}
 use Rattle.law.proofs.Contents.{ContentOf}
@@ -78,12 +78,10 @@ module _ {K : Type 0} where
 
   -- a write has its operation before it once it has made a step
   write_done : (x : ℕ) (v : K) (n : ℕ) (f : Option Found) → 0 < n → todo (asked (Write x v) n f) ≡ []
-  write_done x v zero f l = absurd (omega arith)
-  write_done x v (suc n) f l = refl
+  write_done x v n f l = grind arith
 
   write_first : (x : ℕ) (v : K) (n : ℕ) (f : Option Found) → n ≡ 0 → todo (asked (Write x v) n f) ≡ Write x v ∷ []
-  write_first x v zero f l = refl
-  write_first x v (suc n) f l = absurd (omega arith)
+  write_first x v n f l = cc
 
   module _ (P : ℕ) (start : ℕ → K) (b : ℕ → ℕ) (j : Trace K) (es : List (Event K)) (lawful : Lawful P start b es) (c : CoreOf start b j es) (p : ℕ)
       (who : whose j p ≡ Some ((history es).current p)) (st : StandingOf start b j es p) where
@@ -99,7 +97,7 @@ module _ {K : Type 0} where
 
     -- what is in hand of a read
     fetched_is : (x n : ℕ) (f : Option Found) → desk j p ≡ asked (Read x) n f → (g : Found) (m : ℕ) → desk j p ≡ asked (Read x) m (Some g) → f ≡ Some g
-    fetched_is x n f q g m r = let k : asked (Read x) n f ≡ asked (Read x) m (Some g) = sym q ∙ r in cc
+    fetched_is x n f q g m r = cc
 
     -- what the first step of a read finds, in the place where the protocol keeps what was fetched
     looks : (x n : ℕ) (v : K) (f : Option Found) → desk j p ≡ asked (Read x) n f → n ≡ 0 → May P (state start b es) (look p x v)
@@ -162,8 +160,7 @@ module _ {K : Type 0} where
 
     -- what p has in hand then
     desk_is : (z : Stepped K) (d : Desk K) → desk j p ≡ d → desk_on j (whose j p) d z.answer ≡ desk (entry p (made z) ∷ j) p
-    desk_is z d q =
-        ap (λ (k : Desk K). desk_on j (whose j p) k z.answer) (sym q) ∙ sym (cond-true (eqb p p) _ _ (eq-eqb p p refl))
+    desk_is z d q = grind arith
 
     -- nothing is fetched where the request is no read
     no_read : (d : Desk K) (e : Desk K) → desk j p ≡ d → ((x n : ℕ) (g : Option Found) → d ≡ asked (Read x) n g → ⊥) → (state start b es).phase p ≡ running
@@ -219,7 +216,7 @@ module _ {K : Type 0} where
 
     no_holds : (state start b es).phase p ≡ starting → Covers (makers j) (holds j ((history es).current p))
     no_holds e h i =
-        absurd (true_false (sym (among_in h.object (taken j ((history es).current p)) (hold_taken j ((history es).current p) h i))
+        absurd (true≢false (sym (among_in h.object (taken j ((history es).current p)) (hold_taken j ((history es).current p) h i))
         ∙ c.versions.wrote ((history es).current p) h.object
         ∙ ap (λ (l : List Access). writes l h.object) ((all P start b es lawful).kept.currents.clean p e)))
 

@@ -1,9 +1,8 @@
 -- The contents of versions: what a read got is what the maker of the version left.
 use Rattle.std.proofs.Common.{◌≡◌, ℕ, zero, suc, ◌<◌, ◌≤◌, Bool, cond, eqb, List, ◌∷◌, sym, ap, ◌∙◌, subst, inl, inr, arith}
-use Rattle.std.proofs.lemmas.Bool.{cases_eq}
 use Rattle.protocol.specs.Table.{put}
 use Rattle.protocol.specs.Alone.{Operation, after}
-use Rattle.protocol.proofs.Updates.{put_same, put_other}
+use Rattle.protocol.proofs.Updates.{put_other}
 use Rattle.law.specs.Ledger.{Maker, Reading}
 use Rattle.law.specs.Ledger.Found.{version}
 use Rattle.law.specs.Law.{In}
@@ -87,16 +86,4 @@ module _ {K : Type 0} where
 
     -- version i of x is stored
     pub contents_store : (x i : ℕ) (v : K) → ContentOf start operations maker x i v → Contents start readings operations maker seals (put content x v) (put stored x i)
-    contents_store x i v h =
-        record {
-          present = λ y.
-              elim (cases_eq x y) [
-                | inl e ↦
-                    subst (λ (n : ℕ). ContentOf start operations maker y n (put content x v y)) (sym (put_same stored x i y e))
-                    (subst (ContentOf start operations maker y i) (sym (put_same content x v y e)) (subst (λ (z : ℕ). ContentOf start operations maker z i v) e h))
-                | inr e ↦
-                    subst (λ (n : ℕ). ContentOf start operations maker y n (put content x v y)) (sym (put_other stored x i y e))
-                    (subst (ContentOf start operations maker y (stored y)) (sym (put_other content x v y e)) (c.present y))
-              ];
-          genuine = c.genuine;
-        }
+    contents_store x i v h = grind arith

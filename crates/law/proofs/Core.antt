@@ -1,6 +1,6 @@
 -- What is on record of a run agrees with what the protocol has of it, and each event that a step shows keeps it so.
 use Rattle.std.proofs.Common.{◌≡◌, ℕ, suc, ◌<◌, ◌≤◌, Bool, true, false, cond, not, T, eqb, ◌⊎◌, List, ◌∷◌, length, Some, None, Option, sym, refl, ap, ◌∙◌, subst, inl, inr, arith}
-use Rattle.std.proofs.lemmas.Bool.{cases_eq, cases_Bool, cond-true, cond-false}
+use Rattle.std.proofs.lemmas.Bool.{cases_eq, cases_Bool, cond-true, cond-false, true≢false}
 use Rattle.tables.specs.declared.reply.Answer.TheVariants as answer_is
 use Rattle.tables.specs.declared.reply.Effect.TheVariants.{Nothing, Took, Sealed, Stored}
 use Rattle.tables.specs.declared.reply.Request.{Request}
@@ -12,7 +12,7 @@ use Rattle.protocol.specs.Protocol.{Phase, Held, Event, Cause, Lawful, state}
 use Rattle.protocol.specs.Protocol.Held.{nobody, by}
 use Rattle.protocol.specs.Protocol.Phase.{out, running, certifying, aborting, sealing}
 use Rattle.protocol.specs.Protocol.Event.{ready, answer, own, write, certify, seal, finish, store, fail, free, commit, close}
-use Rattle.protocol.specs.History.{History, Access, Mark, history, writes}
+use Rattle.protocol.specs.History.{Access, Mark, history, writes}
 use Rattle.protocol.specs.History.Access.{rd, ov}
 use Rattle.protocol.specs.History.Mark.{none, some}
 use Rattle.protocol.specs.Alone.{Operation, after}
@@ -23,12 +23,12 @@ use Rattle.protocol.proofs.Invariant.{Live, tag, differ, unheld, one_holder}
 use Rattle.protocol.proofs.Laws.{all}
 use Rattle.law.specs.Trace.{Trace, entry}
 use Rattle.law.specs.Trace.Act.{made}
-use Rattle.law.specs.Ledger.{Maker, Found, Reading, Hold, Desk, first, is, among, push, whose, ended_at, placed_at, sealed_at, begun_at, stored_at, makers, taken, readings, holds, requests, desk, reading, sight, wrote, latest}
+use Rattle.law.specs.Ledger.{Desk, Maker, Found, Reading, Hold, first, is, among, push, whose, ended_at, placed_at, sealed_at, begun_at, stored_at, makers, taken, readings, holds, requests, desk, reading, sight, wrote, latest}
 use Rattle.law.specs.Ledger.Found.{version, pending}
 use Rattle.law.specs.Ledger.Desk.{asked}
 use Rattle.protocol.specs.History as events
 use Rattle.law.specs.Law.{Known}
-use Rattle.law.proofs.Traces.{true_false, known_or, first_before, hold_before, reading_before, hold_taken, taken_held, among_in}
+use Rattle.law.proofs.Traces.{known_or, first_before, hold_before, reading_before, hold_taken, taken_held, among_in}
 use Rattle.law.proofs.Times.{Ends, ends_end, Seals, seals_end, seals_make, seals_at, Bases, bases_at, bases_begin, bases_make, noted, noted_same, noted_keeps, noted_known}
 use Rattle.law.proofs.Versions.{name, chain_name, Versions, versions_log, versions_rewrite, versions_take, versions_store, versions_end, versions_make}
 use Rattle.law.proofs.Accesses.{Logs, logs_read, logs_own, logs_take, logs_rewrite, logs_make}
@@ -152,12 +152,10 @@ module _ {K : Type 0} where
         clash live (ap (state start b es).phase k)
       where
         live_in : Live (state start b es).phase p → (state start b es).phase p ≡ out → ⊥
-        live_in (inl r) o = differ running out tt (sym r ∙ o)
-        live_in (inr r) o = differ certifying out tt (sym r ∙ o)
+        live_in live o = grind arith
 
         clash : Live (state start b es).phase p → (state start b es).phase q ≡ (state start b es).phase p → ⊥
-        clash (inl r) n = differ (sealing u) running tt (sym e ∙ n ∙ r)
-        clash (inr r) n = differ (sealing u) certifying tt (sym e ∙ n ∙ r)
+        clash live n = grind arith
 
     -- whether p's transaction has written x
     writes_held : (x : ℕ) (v : K) → Live (state start b es).phase p → (state start b es).held x ≡ by p v → writes ((history es).log ((history es).current p)) x ≡ true
@@ -337,7 +335,7 @@ module _ {K : Type 0} where
         unsealed =
             elim (known_or (sealed_at j ((history es).current p))) [
               | inl e ↦ e
-              | inr e ↦ absurd (true_false (sym (c.seals.known ((history es).current p) e) ∙ open_is (inr cert)))
+              | inr e ↦ absurd (true≢false (sym (c.seals.known ((history es).current p) e) ∙ open_is (inr cert)))
             ]
 
         latest' : ℕ → ℕ

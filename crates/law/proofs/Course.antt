@@ -1,30 +1,27 @@
 -- The tables of a memory, its bank and the trace of its run stand together; every call keeps them so.
-use Rattle.std.proofs.Common.{◌≡◌, ℕ, suc, ◌+◌, ◌-◌, ◌*◌, ◌^◌, ◌<◌, ◌≤◌, Bool, true, false, cond, not, eqb, ◌⊎◌, List, [], ◌∷◌, ◌++◌, length, get_or, drop, Some, None, Ok, Option, sym, refl, ap, ◌∙◌, subst, inl, inr, arith}
+use Rattle.std.proofs.Common.{◌≡◌, ℕ, suc, ◌+◌, ◌-◌, ◌*◌, ◌^◌, ◌<◌, ◌≤◌, Bool, true, false, cond, eqb, ◌⊎◌, List, [], ◌∷◌, ◌++◌, length, get_or, drop, Some, None, Ok, Option, sym, refl, ap, ◌∙◌, subst, inl, inr, arith}
 use Rattle.std.proofs.lemmas.List.{append_assoc, get_or-map, get_or_past, get_or-replicate, length-map, length-replicate}
-use Rattle.std.proofs.lemmas.Bool.{cases_eq, cases_Bool, cases_lt, eq-eqb, ne_eqb, eqb-false, cond-true, cond-false}
+use Rattle.std.proofs.lemmas.Bool.{cases_eq, cases_lt, eq-eqb, cond-true, not-true}
+use Rattle.std.proofs.lemmas.Option.{same_Some, none-some}
 use Rattle.tables.specs.Fresh.{unheld, fresh_tables}
 use Rattle.tables.specs.Lookup.{value_of}
 use Rattle.tables.specs.Tables.{Tables, process_at, object_at, hand_at, read_set, write_set, idle_process, blank_object, numbers_ok}
 use Rattle.tables.specs.declared.map.Slot.{Slot}
 use Rattle.tables.specs.declared.memory.Object.{Object}
-use Rattle.tables.specs.declared.process.Access.TheVariants as access
-use Rattle.tables.specs.declared.process.Ending.TheVariants as ending
 use Rattle.tables.specs.declared.process.Phase as table
-use Rattle.tables.specs.declared.process.Phase.TheVariants.{Idle, Beginning, Reading, Writing, Extending, Certifying, Storing, Freeing}
+use Rattle.tables.specs.declared.process.Phase.TheVariants.{Idle}
 use Rattle.tables.specs.declared.process.Process.{Process}
-use Rattle.tables.specs.declared.refusal.Refusal.{Refusal}
 use Rattle.tables.specs.declared.reply.Answer.{Answer}
 use Rattle.tables.specs.declared.reply.Conflict.{Conflict}
 use Rattle.tables.specs.declared.reply.Request.{Request}
 use Rattle.tables.specs.declared.reply.Request.TheVariants.{Begin, Read, Write, Commit, Withdraw}
 use Rattle.tables.specs.declared.reply.Stepped.{Stepped}
 use Rattle.engine.specs.Place.{due, placed as placed_process, place_call}
-use Rattle.engine.specs.Sound.{refused}
-use Rattle.engine.specs.Step.{phase_step, step_unless, step_call, step_bank}
+use Rattle.engine.specs.Step.{step_call, step_bank}
 use Rattle.protocol.specs.Table.{put}
 use Rattle.protocol.specs.Protocol.{State, Event, Lawful, LawfulFrom, state, fresh}
 use Rattle.protocol.specs.Protocol.Held.{nobody, by}
-use Rattle.protocol.specs.Protocol.Phase.{out, starting, running, certifying, aborting, sealing}
+use Rattle.protocol.specs.Protocol.Phase.{out, starting, running, certifying, aborting}
 use Rattle.protocol.specs.Protocol.Event.{begin, certify, fail}
 use Rattle.protocol.specs.Protocol.Cause.{withdrawn}
 use Rattle.protocol.specs.History.{history}
@@ -35,35 +32,6 @@ use Rattle.protocol.proofs.Laws.{all}
 use Rattle.protocol.proofs.Updates.{put_same, put_other}
 use Rattle.refinement.proofs.Acts.{Asks, stopped_by, Block, Act, HasStepped, has_stepped, Goes, Advance}
 use Rattle.refinement.proofs.Acts.Act.{plain, certifying_first, withdrawing_first}
-use Rattle.refinement.proofs.Acts.Block.{
-  reads_bank,
-  begins,
-  reads_own,
-  reads_now,
-  reads_later,
-  reads_waits,
-  extends_read,
-  reads_extended,
-  rewrites,
-  takes_now,
-  takes_later,
-  takes_waits,
-  extends_write,
-  writes_extended,
-  passes,
-  passes_last,
-  commits_nothing,
-  seals,
-  stores,
-  stores_last,
-  stops,
-  aborts,
-  frees,
-  aborts_freed,
-  aborts_empty,
-  withdraws_freed,
-  withdraws_empty,
-}
 use Rattle.refinement.proofs.Calls.{step_advances, placing_events, place_advances}
 use Rattle.refinement.proofs.Counts.{step_counts, place_counts}
 use Rattle.refinement.proofs.Kept.{step_good, place_good, fresh_good}
@@ -71,12 +39,12 @@ use Rattle.refinement.proofs.Own.{Good, PhaseOwn}
 use Rattle.refinement.proofs.Rows.{Row, row}
 use Rattle.refinement.proofs.View.{gone, pending_of, HolderAs, LiveAs, RowAs, View, row_at}
 use Rattle.refinement.proofs.Windows.{window}
-use Rattle.law.specs.Trace.{Entry, Trace, entry}
+use Rattle.law.specs.Trace.{Trace, entry}
 use Rattle.law.specs.Trace.Act.{placed, made}
-use Rattle.law.specs.Ledger.{Found, Desk, is, count, whose, begun_at, freed_at, stored_at, taken, desk, desk_on, finds, of_request, of_answer, answer_of}
+use Rattle.law.specs.Ledger.{Found, Desk, is, count, whose, freed_at, stored_at, taken, desk, desk_on, finds, of_request, of_answer}
 use Rattle.law.specs.Ledger.Desk.{free, asked}
-use Rattle.law.specs.Law.{Known, Disturbed, Justified, Prompt, Counted, most, Lawful as LawfulRun}
-use Rattle.law.proofs.Traces.{none_some, some_same, true_false, unborn_at}
+use Rattle.law.specs.Law.{Disturbed, Justified, Prompt, Counted, most, Lawful as LawfulRun}
+use Rattle.law.proofs.Traces.{unborn_at}
 use Rattle.law.proofs.Others.{desk_other}
 use Rattle.law.proofs.Matches.{Matches, matches_step, base_certify, base_withdraw, lawful_split}
 use Rattle.law.proofs.Placed.{matches_ask, matches_begin}
@@ -87,45 +55,12 @@ use Rattle.law.proofs.Watch.{watch_block, watch_certify, watch_withdraw, justifi
 
 -- a request that frees what it holds has steps left
 freeing : (n i s : ℕ) → (n ≡ 0) ⊎ (i < n) → s + cond (eqb n 0) 1 (n - i) ≤ 49 → s < 49
-freeing n i s x y =
-    elim (cases_Bool (eqb n 0)) [
-      | inl k ↦ (let z : s + 1 ≤ 49 = subst (λ (m : ℕ). s + m ≤ 49) (cond-true (eqb n 0) 1 (n - i) k) y in omega arith)
-      | inr k ↦
-          (let z : s + (n - i) ≤ 49 = subst (λ (m : ℕ). s + m ≤ 49) (cond-false (eqb n 0) 1 (n - i) k) y in
-          let d = eqb-false n 0 k in
-          elim x [ inl g ↦ absurd (d g) | inr g ↦ omega arith ])
-    ]
+freeing n i s x y = grind arith
 
 module _ {K : Type 0} where
   -- an answer counts one step more than were made
   count_is : {s : State K} {p : ℕ} {r : Request K} {n : ℕ} {o o' : Option Conflict} {z : Stepped K} {fs : List (Event K)} → Block s p r n o z fs o' → (k : ℕ) → (of_answer z.answer).steps ≡ Some k → k ≡ n + 1
-  count_is (reads_bank n) k e = absurd (none_some e)
-  count_is (begins n c) k e = sym (some_same e)
-  count_is (reads_own x v n z) k e = sym (some_same e)
-  count_is (reads_now x i v n z) k e = sym (some_same e)
-  count_is (reads_later x i v n z) k e = sym (some_same e)
-  count_is (reads_waits x v n z) k e = absurd (none_some e)
-  count_is (extends_read x y n) k e = absurd (none_some e)
-  count_is (reads_extended x i v y n) k e = sym (some_same e)
-  count_is (rewrites x v u n z h) k e = sym (some_same e)
-  count_is (takes_now x v n z h) k e = sym (some_same e)
-  count_is (takes_later x v n z h) k e = sym (some_same e)
-  count_is (takes_waits x v n z h) k e = absurd (none_some e)
-  count_is (extends_write x v y n l) k e = absurd (none_some e)
-  count_is (writes_extended x v y n l) k e = sym (some_same e)
-  count_is (passes y n) k e = absurd (none_some e)
-  count_is (passes_last y n) k e = sym (some_same e)
-  count_is (commits_nothing n) k e = sym (some_same e)
-  count_is (seals t i n) k e = absurd (none_some e)
-  count_is (stores x v t n) k e = absurd (none_some e)
-  count_is (stores_last x v t n) k e = sym (some_same e)
-  count_is (stops r i n) k e = absurd (none_some e)
-  count_is (aborts r i n) k e = sym (some_same e)
-  count_is (frees r o x v n) k e = absurd (none_some e)
-  count_is (aborts_freed r i x v n) k e = sym (some_same e)
-  count_is (aborts_empty r i n) k e = sym (some_same e)
-  count_is (withdraws_freed x v n) k e = sym (some_same e)
-  count_is (withdraws_empty n) k e = sym (some_same e)
+  count_is b k e = grind arith
 
   act_count : {s : State K} {p : ℕ} {r : Request K} {n : ℕ} {o o' : Option Conflict} {z : Stepped K} {fs : List (Event K)} → Act s p r n o z fs o' → (k : ℕ) → (of_answer z.answer).steps ≡ Some k → k ≡ n + 1
   act_count (plain d a) k e = count_is a k e
@@ -168,7 +103,7 @@ module _ {K : Type 0} where
         let base' = base_certify P start b j es lawful c.base p who in' n f q parts.0.1.runs whole in
         let watch' = watch_certify P start b j es lawful c.base w p who in' parts.0.1.runs whole in
         elim (blames P start b j (certify p ∷ es) whole base' watch' p who certain a parts.1 k e) [
-          | inl h ↦ absurd (none_some h)
+          | inl h ↦ cc
           | inr h ↦ justifies P start b j (certify p ∷ es) whole base' watch' p who certain (entry p (made z)) k h.0 h.1
         ]
     act_justifies {z = z} f (withdrawing_first {es = fs} d a) m q k e before =
@@ -177,7 +112,7 @@ module _ {K : Type 0} where
         let base' = base_withdraw P start b j es lawful c.base p who in' whole in
         let watch' = watch_withdraw P start b j es lawful c.base w p who in' whole in
         elim (blames P start b j (fail p withdrawn ∷ es) whole base' watch' p who given_up a parts.1 k e) [
-          | inl h ↦ absurd (none_some h)
+          | inl h ↦ cc
           | inr h ↦ justifies P start b j (fail p withdrawn ∷ es) whole base' watch' p who given_up (entry p (made z)) k h.0 h.1
         ]
 
@@ -202,23 +137,7 @@ module _ {K : Type 0} where
 
   -- the steps that a request has made are few
   steps_few : (P N : ℕ) (h : K) (r : Process) (rs : List (Slot ℕ)) (ws : List (Slot K)) (f : table.Phase) (q : Request K) → PhaseOwn P N r rs ws f → Asks h f q → r.steps < most P q
-  steps_few P N h r rs ws Idle q o a = absurd a
-  steps_few P N h r rs ws (Beginning next least) q o a = subst (λ (k : Request K). r.steps < most P k) (sym a) (let x = o.0 in let y = o.2 in omega arith)
-  steps_few P N h r rs ws (Reading x) q o a = subst (λ (k : Request K). r.steps < most P k) (sym a) (let y = o.2 in omega arith)
-  steps_few P N h r rs ws (Writing x) q o a = subst (λ (k : Request K). r.steps < most P k) (sym a) (let y = o.2 in omega arith)
-  steps_few P N h r rs ws (Extending x to next access.Read) q o a = subst (λ (k : Request K). r.steps < most P k) (sym a) (let y = o.2 in let z = o.4 in omega arith)
-  steps_few P N h r rs ws (Extending x to next access.Write) q o a = subst (λ (k : Request K). r.steps < most P k) (sym a) (let y = o.2 in let z = o.4 in omega arith)
-  steps_few P N h r rs ws (Certifying next) q o a = subst (λ (k : Request K). r.steps < most P k) (sym a) (let y = o.1 in omega arith)
-  steps_few P N h r rs ws (Storing next) q o a = subst (λ (k : Request K). r.steps < most P k) (sym a) (let x = o.0 in let y = o.1 in omega arith)
-  steps_few P N h r rs ws (Freeing next (ending.Abort c)) q o a = any q a
-    where
-      any : (k : Request K) → (k ≡ Begin → ⊥) → r.steps < most P k
-      any Begin no' = absurd (no' refl)
-      any (Read x) no' = freeing r.writes next r.steps o.0 o.2
-      any (Write x v) no' = freeing r.writes next r.steps o.0 o.2
-      any Commit no' = freeing r.writes next r.steps o.0 o.2
-      any Withdraw no' = freeing r.writes next r.steps o.0 o.2
-  steps_few P N h r rs ws (Freeing next ending.Withdraw) q o a = subst (λ (k : Request K). r.steps < most P k) (sym a) (freeing r.writes next r.steps o.0 o.2)
+  steps_few P N h r rs ws f q o a = grind arith
 
   -- a process that is not there has nothing in hand
   absent_idle : (t : Tables K) (p : ℕ) → length t.processes ≤ p → (process_at t p).phase ≡ Idle
@@ -242,29 +161,14 @@ module _ {K : Type 0} where
 
   -- a process whose transaction is open is so in the protocol
   live_open : (number : ℕ → ℕ) (r : Process) (rs : List (Slot ℕ)) (h : K) (f : table.Phase) (w : Row K) → LiveAs number r rs h f w → w.phase ≡ out → ⊥
-  live_open number r rs h Idle w a o = differ running out tt (sym a.phase ∙ o)
-  live_open number r rs h (Beginning next least) w a o = differ starting out tt (sym a.0 ∙ o)
-  live_open number r rs h (Reading x) w a o = differ running out tt (sym a.phase ∙ o)
-  live_open number r rs h (Writing x) w a o = differ running out tt (sym a.phase ∙ o)
-  live_open number r rs h (Extending x to next access.Read) w a o = differ running out tt (sym a.0.phase ∙ o)
-  live_open number r rs h (Extending x to next access.Write) w a o = differ running out tt (sym a.phase ∙ o)
-  live_open number r rs h (Certifying next) w (inl a) o = differ running out tt (sym a.2.phase ∙ o)
-  live_open number r rs h (Certifying next) w (inr a) o = differ certifying out tt (sym a.phase ∙ o)
-  live_open number r rs h (Storing next) w a o = differ (sealing r.clock) out tt (sym a ∙ o)
-  live_open number r rs h (Freeing next (ending.Abort c)) w a o = differ aborting out tt (sym a ∙ o)
-  live_open number r rs h (Freeing next ending.Withdraw) w (inl a) o = differ running out tt (sym a.2.phase ∙ o)
-  live_open number r rs h (Freeing next ending.Withdraw) w (inr a) o = differ aborting out tt (sym a ∙ o)
+  live_open number r rs h f w a o = grind arith
 
   row_of : (e : K) (number : ℕ → ℕ) (t : Tables K) (s : State K) (p : ℕ) → View e number t s → (k : Bool) → (process_at t p).live ≡ k → RowAs number (process_at t p) (read_set t p) (hand_at e t p) k (row s p)
   row_of e number t s p v k h = subst (λ (x : Bool). RowAs number (process_at t p) (read_set t p) (hand_at e t p) x (row s p)) h (v.rows p)
 
   -- a step that is made finds a request in hand
   idle_step : (e : K) (number : ℕ → ℕ) (t : Tables K) (p : ℕ) (z : Stepped K) → (process_at t p).phase ≡ Idle → (step_call e number t p).reply ≡ Ok z → ⊥
-  idle_step e number t p z idle = go (refused e t p)
-    where
-      go : (o : Option Refusal) → (step_unless o e number t p).reply ≡ Ok z → ⊥
-      go (Some q) h = cc
-      go None h = let k = subst (λ (f : table.Phase). (phase_step e number t p f).reply ≡ Ok z) idle h in cc
+  idle_step e number t p z idle = grind arith
 
   -- the answer's count, by the request in hand
   counted : (P : ℕ) (d : Desk K) (r : Request K) (n : ℕ) (f : Option Found) (o : Option ℕ) → d ≡ asked r n f → n < most P r → ((k : ℕ) → o ≡ Some k → k ≡ n + 1) → Counted P d o
@@ -318,7 +222,7 @@ module _ {K B : Type 0} (e : K) (number : B → ℕ → ℕ) (moved : B → ℕ 
     -- the conflict of p's request is justified
     justify : (k : Conflict) → (adv.conflict ≡ Some k) ⊎ ((of_answer z.answer).conflict ≡ Some k) → (v : ℕ) → whose j p ≡ Some v → Justified (entry p (made z) ∷ j) v k
     justify k why v q =
-        subst (λ (x : ℕ). Justified (entry p (made z) ∷ j) x k) (some_same (sym who ∙ q))
+        subst (λ (x : ℕ). Justified (entry p (made z) ∷ j) x k) (same_Some _ _ (sym who ∙ q))
         (act_justifies P start b j c.events c.lawful c.matches c.watch p who opened in_hand.1 act may in_hand.3 k why (λ s. (c.desks p).stopped k s ((history c.events).current p) who))
 
     mine : Desked (process_at u p) (hand_at e u p) (entry p (made z) ∷ j) p
@@ -350,7 +254,7 @@ module _ {K B : Type 0} (e : K) (number : B → ℕ → ℕ) (moved : B → ℕ 
         over : (a : Option (Answer K)) → z.answer ≡ a → Goes in_hand.0 (process_at t p).steps adv.conflict a (process_at u p) (hand_at e u p)
             → (k : Conflict) → stopped_by (process_at u p).phase ≡ Some k → (v : ℕ) → whose j p ≡ Some v → Justified (entry p (made z) ∷ j) v k
         over None q g k s v w = justify k (inl (sym g.2 ∙ s)) v w
-        over (Some a) q g k s v w = absurd (none_some (ap stopped_by (sym g.0) ∙ s))
+        over (Some a) q g k s v w = absurd (none-some _ (ap stopped_by (sym g.0) ∙ s))
 
     others : (q : ℕ) → (p ≡ q → ⊥) → Desked (process_at u q) (hand_at e u q) (entry p (made z) ∷ j) q
     others q d =
@@ -387,15 +291,10 @@ module _ {K B : Type 0} (e : K) (number : B → ℕ → ℕ) (moved : B → ℕ 
   module _ (t : Tables K) (number' : ℕ → ℕ) (p : ℕ) (j : Trace K) (c : Course e P start b number' t j) where
     -- a process without a request has nothing in hand
     nothing : (process_at t p).phase ≡ Idle → desk j p ≡ free
-    nothing idle =
-        elim (c.desks p).hand [
-          | inl k ↦ k.1
-          | inr k ↦ absurd (subst (λ (f : table.Phase). Asks (hand_at e t p) f k.0) idle k.2)
-        ]
+    nothing idle = grind arith
 
     runs : (process_at t p).phase ≡ Idle → (process_at t p).live ≡ true → (state start b c.events).phase p ≡ running
-    runs idle live =
-        (subst (λ (f : table.Phase). LiveAs number' (process_at t p) (read_set t p) (hand_at e t p) f (row (state start b c.events) p)) idle (row_of e number' t (state start b c.events) p c.view true live)).phase
+    runs idle live = grind arith
 
     who_is : (process_at t p).live ≡ true → whose j p ≡ Some ((history c.events).current p)
     who_is live = let k = (c.desks p).begun live in k.1 ∙ ap Some (sym (c.matches.base.who p k.0 k.1))
@@ -436,19 +335,14 @@ module _ {K B : Type 0} (e : K) (number : B → ℕ → ℕ) (moved : B → ℕ 
         }
       where
         not_out : (u : ℕ) → Live (state start b c.events).phase u → p ≡ u → ⊥
-        not_out u (inl r) i = differ running out tt (sym r ∙ ap (state start b c.events).phase (sym i) ∙ ended)
-        not_out u (inr r) i = differ certifying out tt (sym r ∙ ap (state start b c.events).phase (sym i) ∙ ended)
+        not_out u live i = grind arith
 
     -- what is on record, by the request
     kept : (q : Request K) → (process_at t p).phase ≡ Idle → due q (process_at t p).live ≡ true
         → Matches start b (entry p (placed q) ∷ j) (placing_events p q ++ c.events) × Watch start b (entry p (placed q) ∷ j) (placing_events p q ++ c.events)
     kept Begin idle d =
-        let ended : (state start b c.events).phase p ≡ out = (row_of e number' t (state start b c.events) p c.view false (not_live (process_at t p).live d)).0 in
+        let ended : (state start b c.events).phase p ≡ out = (row_of e number' t (state start b c.events) p c.view false (not-true (process_at t p).live d)).0 in
         (matches_begin P start b j c.events c.lawful c.matches p ended, watch_begin ended)
-      where
-        not_live : (k : Bool) → not k ≡ true → k ≡ false
-        not_live false h = refl
-        not_live true h = absurd (true_false (sym h))
     kept (Read x) idle d = (matches_ask P start b j c.events c.lawful c.matches p (who_is d) (runs idle d) (nothing idle) (Read x) (λ i. cc), watch_ask (Read x))
     kept (Write x v) idle d = (matches_ask P start b j c.events c.lawful c.matches p (who_is d) (runs idle d) (nothing idle) (Write x v) (λ i. cc), watch_ask (Write x v))
     kept Commit idle d = (matches_ask P start b j c.events c.lawful c.matches p (who_is d) (runs idle d) (nothing idle) Commit (λ i. cc), watch_ask Commit)
@@ -463,18 +357,10 @@ module _ {K B : Type 0} (e : K) (number : B → ℕ → ℕ) (moved : B → ℕ 
     has_begun Withdraw d = (c.desks p).begun d
 
     others_begun : (q : Request K) (n : ℕ) → (p ≡ n → ⊥) → whose (entry p (placed q) ∷ j) n ≡ whose j n
-    others_begun Begin n d = cond-false (eqb p n) (Some (count j)) (whose j n) (ne_eqb p n d)
-    others_begun (Read x) n d = refl
-    others_begun (Write x v) n d = refl
-    others_begun Commit n d = refl
-    others_begun Withdraw n d = refl
+    others_begun q n d = grind arith
 
     unstopped : (q : Request K) (k : Conflict) → stopped_by (placed_process {K = K} (process_at t p) q).phase ≡ Some k → ⊥
-    unstopped Begin k h = none_some h
-    unstopped (Read x) k h = none_some h
-    unstopped (Write x v) k h = none_some h
-    unstopped Commit k h = none_some h
-    unstopped Withdraw k h = none_some h
+    unstopped q k h = grind arith
 
     unextended : (q : Request K) → HasStepped (placed_process {K = K} (process_at t p) q).phase (placed_process {K = K} (process_at t p) q).steps
     unextended Begin = tt
@@ -513,7 +399,7 @@ module _ {K B : Type 0} (e : K) (number : B → ℕ → ℕ) (moved : B → ℕ 
           matches = both.0;
           watch = both.1;
           desks = desks';
-          prompt = (c.prompt, (λ n r k f i. soon e P u (entry p (placed q) ∷ j) good' processes' n (desks' n) r k f i), tt, λ v k w s. absurd (none_some s));
+          prompt = (c.prompt, (λ n r k f i. soon e P u (entry p (placed q) ∷ j) good' processes' n (desks' n) r k f i), tt, λ v k w s. cc);
         }
 
 -- A fresh memory, before any call.
@@ -543,7 +429,7 @@ module _ {K : Type 0} (e : K) (number : ℕ → ℕ) (contents : List K) (n : �
       let t = fresh_tables e contents n in
       let F : Process → Type 0 = λ r. value_of (drop (gone r.phase) (window t.writes (p * 16) r.writes)) x ≡ Some v in
       let k : None ≡ Some v = subst F (processes p) h in
-      absurd (none_some k)
+      cc
 
   pub fresh_view : View e number (fresh_tables e contents n) (fresh opening number)
   fresh_view =
@@ -563,30 +449,7 @@ module _ {K : Type 0} (e : K) (number : ℕ → ℕ) (contents : List K) (n : �
   unheld_by h = cc
 
   fresh_matches : Matches opening number [] []
-  fresh_matches =
-      record {
-        base =
-            record {
-              counts = refl;
-              who = λ p u h. absurd (none_some h);
-              core =
-                  record {
-                    ends = record { ends = λ t h. absurd (none_some h.1); before = λ t u h. absurd (none_some h.2) };
-                    seals = record { known = λ t h. absurd (none_some h.1); noted_too = λ t h. absurd (true_false (sym h)); made = λ i l m. absurd (omega arith) };
-                    bases = record { above = λ t i l m h. absurd (omega arith); since = λ t i l m k h. absurd (omega arith) };
-                    versions = record { line = λ x. refl; wrote = λ t x. refl; due = λ x. inl refl; storers = λ t x h. absurd (none_some h.1) };
-                    logs = record { reads = λ t r m h k. absurd h; held = λ t h k. absurd k; dated = λ t. tt; replaced = λ i h l m k. absurd (omega arith) };
-                    ops = record { gets = λ t. refl; asks = λ t h. absurd (true_false (sym h)) };
-                    contents = record { present = λ x. refl; genuine = λ t r m h k. absurd h };
-                    logged = λ t a h. absurd h;
-                    owing = record { owes = λ p x v u h k. absurd (unheld_by k) };
-                  };
-              ordered = λ t h. absurd (true_false (sym h));
-              standing = λ p h. absurd (h refl);
-            };
-        certs = record { known = λ t h. absurd (none_some h.1); later = λ i l. absurd (omega arith); ordered = λ h i l m. absurd (omega arith) };
-        certified = λ p m f o h. absurd (o refl);
-      }
+  fresh_matches = grind arith
 
   fresh_watch : Watch opening number [] []
   fresh_watch =
@@ -607,7 +470,7 @@ module _ {K : Type 0} (e : K) (number : ℕ → ℕ) (contents : List K) (n : �
         watch = fresh_watch;
         desks = λ p.
             subst (λ (r : Process). Desked r (hand_at e (fresh_tables e contents n) p) [] p) (sym (processes p))
-            (record { hand = inl (refl, refl); begun = λ l. absurd (true_false (sym l)); stopped = λ k s v w. absurd (none_some s); stepped = tt });
+            (record { hand = inl (refl, refl); begun = λ l. cc; stopped = λ k s v w. cc; stepped = tt });
         prompt = tt;
       }
 

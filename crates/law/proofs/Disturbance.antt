@@ -1,6 +1,7 @@
 -- An abort has a reason: another transaction held the object that it names, while both were open.
-use Rattle.std.proofs.Common.{◌≡◌, ℕ, suc, ◌<◌, ◌≤◌, Bool, true, false, cond, ◌&&◌, eqb, ◌⊎◌, List, [], ◌∷◌, length, Some, None, Option, sym, refl, ap, ◌∙◌, subst, inl, inr, arith}
-use Rattle.std.proofs.lemmas.Bool.{cases_eq, eq-eqb, cond-true}
+use Rattle.std.proofs.Common.{◌≡◌, ℕ, suc, ◌<◌, ◌≤◌, Bool, true, false, cond, ◌&&◌, ◌⊎◌, List, [], ◌∷◌, length, Some, None, Option, sym, refl, ap, ◌∙◌, inl, inr, arith}
+use Rattle.std.proofs.lemmas.Bool.{cases_eq, cond-true}
+use Rattle.std.proofs.lemmas.Option.{none-some}
 use Rattle.tables.specs.declared.reply.Conflict.{Conflict}
 use Rattle.tables.specs.declared.reply.Conflict.TheVariants as conflict
 use Rattle.protocol.specs.Table.{put}
@@ -8,30 +9,19 @@ use Rattle.protocol.specs.Protocol.{Phase, Held, Event, state}
 use Rattle.protocol.specs.Protocol.Held.{nobody, by}
 use Rattle.protocol.specs.Protocol.Phase.{out, aborting}
 use Rattle.protocol.specs.History.{history}
-use Rattle.protocol.proofs.Updates.{put_same, put_other, put_is}
 use Rattle.protocol.proofs.Freshness.{FreshOf}
 use Rattle.law.specs.Trace.{Act, Entry, Trace}
-use Rattle.law.specs.Ledger.{first, is, among, count, whose, belongs, first_at, begins as begins_now, placed_at, ended_at, stored_at, freed_at, taken, holds, effect_of, hold}
+use Rattle.law.specs.Ledger.{first, among, count, belongs, first_at, begins as begins_now, placed_at, ended_at, stored_at, freed_at, taken, holds, effect_of, hold}
 use Rattle.law.specs.Law.{Known, OpenAt, HeldAt, Disturbed, Justified}
-use Rattle.law.proofs.Traces.{none_some, some_same, first_before, hold_before, taken_held, push_keeps}
+use Rattle.law.proofs.Traces.{first_before, hold_before, taken_held, push_keeps}
 
 module _ {K : Type 0} where
   -- a time on record stays, and a new one is the time of the entry
   first_stays : (f : Act K → Bool) (l : Entry K) (j : Trace K) (t m : ℕ) → first_at f j t ≡ Some m → first_at f (l ∷ j) t ≡ Some m
-  first_stays f l j t m h = go (f l.act && belongs l j t) (first_at f j t) h
-    where
-      go : (b : Bool) (o : Option ℕ) → o ≡ Some m → cond b (Some (first o (length j))) o ≡ Some m
-      go true None e = absurd (none_some e)
-      go true (Some n) e = e
-      go false o e = e
+  first_stays f l j t m h = grind arith
 
   first_late : (f : Act K → Bool) (l : Entry K) (j : Trace K) (t m : ℕ) → first_at f (l ∷ j) t ≡ Some m → (first_at f j t ≡ Some m) ⊎ (m ≡ length j)
-  first_late f l j t m h = go (f l.act && belongs l j t) (first_at f j t) refl h
-    where
-      go : (b : Bool) (o : Option ℕ) → first_at f j t ≡ o → cond b (Some (first o (length j))) o ≡ Some m → (first_at f j t ≡ Some m) ⊎ (m ≡ length j)
-      go true None q e = inr (sym (some_same e))
-      go true (Some n) q e = inl (q ∙ e)
-      go false o q e = inl (q ∙ e)
+  first_late f l j t m h = grind arith
 
   -- every transaction has its placing on record
   pub placed_known : (j : Trace K) (t : ℕ) → t < count j → Known (placed_at j t)
@@ -42,9 +32,7 @@ module _ {K : Type 0} where
       old k = (k.0, first_stays begins_now l j t k.0 k.1)
 
       new : begins_now l.act ≡ true → t ≡ count j → belongs l j t ≡ true
-      new b e =
-          ap (λ (o : Option ℕ). is o t) (cond-true (begins_now l.act && eqb l.process l.process) (Some (count j)) (whose j l.process) (ap (λ (x : Bool). x && eqb l.process l.process) b ∙ eq-eqb l.process l.process refl))
-          ∙ eq-eqb (count j) t (sym e)
+      new b e = grind arith
 
       go : (t < count j → Known (placed_at j t)) → (b : Bool) → begins_now l.act ≡ b → t < cond b (suc (count j)) (count j) → Known (placed_at (l ∷ j) t)
       go up true e k =
@@ -63,16 +51,7 @@ module _ {K : Type 0} where
       }
 
   held_more : (l : Entry K) (j : Trace K) (u x n : ℕ) → n < length j → HeldAt j u x n → HeldAt (l ∷ j) u x n
-  held_more l j u x n k h = (
-    h.0,
-    push_keeps h.0 (hold j (effect_of l.act).takes) (belongs l j u) (holds j u) h.1,
-    h.2,
-    h.3,
-    record {
-      stores = λ m e. elim (first_late _ l j u m e) [ inl d ↦ h.4.stores m d | inr d ↦ omega arith ];
-      frees = λ m e. elim (first_late _ l j u m e) [ inl d ↦ h.4.frees m d | inr d ↦ omega arith ];
-    },
-  )
+  held_more l j u x n k h = grind arith
 
   pub disturbed_more : (l : Entry K) (j : Trace K) (t x : ℕ) → Disturbed j t x → Disturbed (l ∷ j) t x
   disturbed_more l j t x d =
@@ -105,7 +84,7 @@ module _ {K : Type 0} where
       )
     where
       at_end : (f : Act K → Bool) (v m : ℕ) → first_at f j v ≡ None → first_at f (l ∷ j) v ≡ Some m → length j ≤ m
-      at_end f v m none e = elim (first_late f l j v m e) [ inl q ↦ absurd (none_some (sym none ∙ q)) | inr q ↦ omega arith ]
+      at_end f v m none e = elim (first_late f l j v m e) [ inl q ↦ absurd (none-some _ (sym none ∙ q)) | inr q ↦ omega arith ]
 
       open_now : (v : ℕ) → Known (placed_at j v) → ended_at j v ≡ None → OpenAt (l ∷ j) v (length j)
       open_now v k e =
@@ -122,47 +101,17 @@ module _ {K : Type 0} where
   module _ (phase : ℕ → Phase) (held : ℕ → Held K) (current : ℕ → ℕ) (taken : ℕ → List ℕ) (stored_at freed_at : ℕ → ℕ → Option ℕ) (c : Holding phase held current taken stored_at freed_at) where
     -- p comes into another phase
     pub holding_turn : (p : ℕ) (f : Phase) → ((f ≡ out → ⊥) → (f ≡ aborting → ⊥) → (phase p ≡ out → ⊥) × (phase p ≡ aborting → ⊥)) → Holding (put phase p f) held current taken stored_at freed_at
-    holding_turn p f was =
-        record {
-          keeps = c.keeps;
-          unfreed = λ q o a x.
-              elim (cases_eq p q) [
-                | inl e ↦
-                    (let k = was (λ i. o (put_same phase p f q e ∙ i)) (λ i. a (put_same phase p f q e ∙ i)) in
-                    c.unfreed q (λ i. k.0 (ap phase e ∙ i)) (λ i. k.1 (ap phase e ∙ i)) x)
-                | inr e ↦ c.unfreed q (λ i. o (put_other phase p f q e ∙ i)) (λ i. a (put_other phase p f q e ∙ i)) x
-              ];
-        }
+    holding_turn p f was = grind arith
 
     -- p writes x, with more on record as taken
     pub holding_write : (p x : ℕ) (v : K) (taken' : ℕ → List ℕ) → ((u y : ℕ) → among y (taken u) ≡ true → among y (taken' u) ≡ true)
         → (among x (taken' (current p)) ≡ true) × (stored_at (current p) x ≡ None) × (freed_at (current p) x ≡ None) → Holding phase (put held x (by p v)) current taken' stored_at freed_at
-    holding_write p x v taken' more mine =
-        record {
-          keeps = λ q y w h.
-              elim (put_is held x (by p v) y (by q w) h) [
-                | inl d ↦
-                    (let k = d.1 in
-                    let e : p ≡ q = cc in
-                    subst (λ (n : ℕ). (among n (taken' (current q)) ≡ true) × (stored_at (current q) n ≡ None) × (freed_at (current q) n ≡ None)) d.0
-                    (subst (λ (n : ℕ). (among x (taken' (current n)) ≡ true) × (stored_at (current n) x ≡ None) × (freed_at (current n) x ≡ None)) e mine))
-                | inr d ↦ (let k = c.keeps q y w d.1 in (more (current q) y k.0, k.1, k.2))
-              ];
-          unfreed = c.unfreed;
-        }
+    holding_write p x v taken' more mine = grind arith
 
     -- x is let go
     pub holding_release : (x : ℕ) (stored' freed' : ℕ → ℕ → Option ℕ) → ((u y : ℕ) → (x ≡ y → ⊥) → stored' u y ≡ stored_at u y) → ((u y : ℕ) → (x ≡ y → ⊥) → freed' u y ≡ freed_at u y)
         → ((q : ℕ) → (phase q ≡ out → ⊥) → (phase q ≡ aborting → ⊥) → (y : ℕ) → freed' (current q) y ≡ freed_at (current q) y) → Holding phase (put held x nobody) current taken stored' freed'
-    holding_release x stored' freed' ss fs others =
-        record {
-          keeps = λ q y w h.
-              elim (put_is held x nobody y (by q w) h) [
-                | inl d ↦ absurd (let k = d.1 in cc)
-                | inr d ↦ (let k = c.keeps q y w d.1 in (k.0, ss (current q) y d.0 ∙ k.1, fs (current q) y d.0 ∙ k.2))
-              ];
-          unfreed = λ q o a y. others q o a y ∙ c.unfreed q o a y;
-        }
+    holding_release x stored' freed' ss fs others = grind arith
 
   -- the reasons for aborts that a trace shows
   pub record Watch (start : ℕ → K) (b : ℕ → ℕ) (j : Trace K) (es : List (Event K)) : Type 0 where

@@ -1,17 +1,16 @@
 -- A step of the engine keeps all that is on record in agreement with the protocol.
-use Rattle.std.proofs.Common.{◌≡◌, ℕ, suc, ◌<◌, Bool, true, false, cond, ◌&&◌, eqb, ◌⊎◌, List, [], ◌∷◌, ◌++◌, length, Some, None, Option, sym, refl, ap, ◌∙◌, subst, inl, inr, arith}
+use Rattle.std.proofs.Common.{◌≡◌, ℕ, suc, ◌<◌, true, false, cond, eqb, ◌⊎◌, List, [], ◌∷◌, ◌++◌, length, Some, Option, sym, refl, ap, ◌∙◌, subst, inl, inr, arith}
 use Rattle.std.proofs.lemmas.List.{append_assoc}
-use Rattle.std.proofs.lemmas.Bool.{cases_eq, cases_Bool, eq-eqb, ne_eqb, cond-true}
+use Rattle.std.proofs.lemmas.Bool.{cases_eq, cases_Bool, ne_eqb}
 use Rattle.tables.specs.declared.reply.Answer.{Answer}
 use Rattle.tables.specs.declared.reply.Conflict.{Conflict}
 use Rattle.tables.specs.declared.reply.Request.{Request}
-use Rattle.tables.specs.declared.reply.Request.TheVariants.{Begin, Read, Write, Commit, Withdraw}
+use Rattle.tables.specs.declared.reply.Request.TheVariants.{Commit, Withdraw}
 use Rattle.tables.specs.declared.reply.Stepped.{Stepped}
-use Rattle.protocol.specs.Table.{put}
 use Rattle.protocol.specs.Protocol.{State, Phase, Event, May, Lawful, LawfulFrom, state, states, fresh, next}
-use Rattle.protocol.specs.Protocol.Phase.{out, running, certifying, aborting, sealing}
+use Rattle.protocol.specs.Protocol.Phase.{out, running, certifying, aborting}
 use Rattle.protocol.specs.Protocol.Cause.{withdrawn}
-use Rattle.protocol.specs.Protocol.Event.{begin, ready, look, check, extend, answer, own, write, certify, pass, seal, finish, move, store, fail, free, commit, close}
+use Rattle.protocol.specs.Protocol.Event.{certify, fail}
 use Rattle.protocol.specs.History.{History, history, enter}
 use Rattle.protocol.specs.Commits.{commits_of}
 use Rattle.protocol.proofs.Blocks.{joined, lawful_on}
@@ -21,42 +20,13 @@ use Rattle.protocol.proofs.Laws.{all}
 use Rattle.protocol.proofs.Sequence.{sequence}
 use Rattle.refinement.proofs.Acts.{Block, Act}
 use Rattle.refinement.proofs.Acts.Act.{plain, certifying_first, withdrawing_first}
-use Rattle.refinement.proofs.Acts.Block.{
-  reads_bank,
-  begins,
-  reads_own,
-  reads_now,
-  reads_later,
-  reads_waits,
-  extends_read,
-  reads_extended,
-  rewrites,
-  takes_now,
-  takes_later,
-  takes_waits,
-  extends_write,
-  writes_extended,
-  passes,
-  passes_last,
-  commits_nothing,
-  seals,
-  stores,
-  stores_last,
-  stops,
-  aborts,
-  frees,
-  aborts_freed,
-  aborts_empty,
-  withdraws_freed,
-  withdraws_empty,
-}
 use Rattle.law.specs.Trace.{Trace, entry}
 use Rattle.law.specs.Trace.Act.{made}
-use Rattle.law.specs.Ledger.{Found, Desk, Hold, first, is, among, count, whose, wrote, makers, latest, taken, holds, requests, desk, desk_on, certifies, certified_at, of_request}
-use Rattle.law.specs.Ledger.Desk.{free, asked}
+use Rattle.law.specs.Ledger.{Found, Desk, Hold, first, is, among, count, whose, wrote, makers, latest, taken, holds, requests, desk, desk_on, certified_at}
+use Rattle.law.specs.Ledger.Desk.{asked}
 use Rattle.law.specs.Law.{In, Known}
-use Rattle.law.proofs.Traces.{true_false, push_false, hold_taken, among_in, certified_before}
-use Rattle.law.proofs.Times.{Certs, certs_at, certs_begin, noted_same, noted_has}
+use Rattle.law.proofs.Traces.{hold_taken, among_in, certified_before}
+use Rattle.law.proofs.Times.{Certs, certs_at, certs_begin, noted_has}
 use Rattle.law.proofs.Requests.{AsksAs, todo, started}
 use Rattle.law.proofs.Standing.{Going, in_certifying, in_aborting}
 use Rattle.law.proofs.Core.{CoreOf, core_certify, core_fail}
@@ -79,140 +49,23 @@ module _ {K : Type 0} where
 
   module _ (start : ℕ → K) (b : ℕ → ℕ) (es : List (Event K)) (p : ℕ) where
     pub leaves : {r : Request K} {n : ℕ} {o o' : Option Conflict} {z : Stepped K} {fs : List (Event K)} → Block (state start b es) p r n o z fs o' → Leaves p fs es
-    leaves (reads_bank n) = record { within = tt; begun = refl; current = refl; certs = refl; order = refl }
-    leaves (begins n k) = record { within = (refl, tt, tt); begun = refl; current = refl; certs = refl; order = refl }
-    leaves (reads_own x v n z) = record { within = (refl, tt, tt); begun = refl; current = refl; certs = refl; order = refl }
-    leaves (reads_now x k v n z) = record { within = (refl, tt, (refl, tt, tt)); begun = refl; current = refl; certs = refl; order = refl }
-    leaves (reads_later x k v n z) = record { within = (refl, tt, (refl, tt, (refl, tt, tt))); begun = refl; current = refl; certs = refl; order = refl }
-    leaves (reads_waits x v n z) = record { within = (refl, tt, tt); begun = refl; current = refl; certs = refl; order = refl }
-    leaves (extends_read x y n) = record { within = (refl, tt, tt); begun = refl; current = refl; certs = refl; order = refl }
-    leaves (reads_extended x k v y n) = record { within = (refl, tt, (refl, tt, (refl, tt, tt))); begun = refl; current = refl; certs = refl; order = refl }
-    leaves (rewrites x v w n z h) = record { within = (refl, tt, tt); begun = refl; current = refl; certs = refl; order = refl }
-    leaves (takes_now x v n z h) = record { within = (refl, tt, tt); begun = refl; current = refl; certs = refl; order = refl }
-    leaves (takes_later x v n z h) = record { within = (refl, tt, (refl, tt, tt)); begun = refl; current = refl; certs = refl; order = refl }
-    leaves (takes_waits x v n z h) = record { within = (refl, tt, tt); begun = refl; current = refl; certs = refl; order = refl }
-    leaves (extends_write x v y n l) = record { within = (refl, tt, tt); begun = refl; current = refl; certs = refl; order = refl }
-    leaves (writes_extended x v y n l) = record { within = (refl, tt, (refl, tt, tt)); begun = refl; current = refl; certs = refl; order = refl }
-    leaves (passes y n) = record { within = (refl, tt, tt); begun = refl; current = refl; certs = refl; order = refl }
-    leaves (passes_last y n) = record { within = (refl, tt, (refl, tt, (refl, tt, tt))); begun = refl; current = refl; certs = refl; order = refl }
-    leaves (commits_nothing n) = record { within = (refl, tt, (refl, tt, tt)); begun = refl; current = refl; certs = refl; order = refl }
-    leaves (seals t k n) = record { within = (refl, tt, tt); begun = refl; current = refl; certs = refl; order = refl }
-    leaves (stores x v t n) = record { within = (refl, tt, tt); begun = refl; current = refl; certs = refl; order = refl }
-    leaves (stores_last x v t n) = record { within = (refl, tt, (refl, tt, tt)); begun = refl; current = refl; certs = refl; order = refl }
-    leaves (stops r k n) = record { within = (refl, tt, tt); begun = refl; current = refl; certs = refl; order = refl }
-    leaves (aborts r k n) = record { within = (refl, tt, (refl, tt, tt)); begun = refl; current = refl; certs = refl; order = refl }
-    leaves (frees r o x v n) = record { within = (refl, tt, tt); begun = refl; current = refl; certs = refl; order = refl }
-    leaves (aborts_freed r k x v n) = record { within = (refl, tt, (refl, tt, tt)); begun = refl; current = refl; certs = refl; order = refl }
-    leaves (aborts_empty r k n) = record { within = (refl, tt, tt); begun = refl; current = refl; certs = refl; order = refl }
-    leaves (withdraws_freed x v n) = record { within = (refl, tt, (refl, tt, tt)); begun = refl; current = refl; certs = refl; order = refl }
-    leaves (withdraws_empty n) = record { within = (refl, tt, tt); begun = refl; current = refl; certs = refl; order = refl }
-
-    -- a transaction that is sealed by the block is that of p, which certifies
-    was_sealed : (cert : (state start b es).phase p ≡ certifying) (u : ℕ) → put (commits_of es).sealed ((history es).current p) true u ≡ true → ((commits_of es).sealed u ≡ true) ⊎ (((history es).current p ≡ u) × ((state start b es).phase p ≡ certifying))
-    was_sealed cert u h =
-        elim (cases_eq ((history es).current p) u) [ inl e ↦ inr (e, cert) | inr e ↦ inl (sym (put_other (commits_of es).sealed ((history es).current p) true u e) ∙ h) ]
+    leaves h = grind arith
 
     newly : (P : ℕ) {r : Request K} {n : ℕ} {o o' : Option Conflict} {z : Stepped K} {fs : List (Event K)} → Block (state start b es) p r n o z fs o' → LawfulFrom P (state start b es) fs
         → (u : ℕ) → (commits_of (fs ++ es)).sealed u ≡ true → ((commits_of es).sealed u ≡ true) ⊎ (((history es).current p ≡ u) × ((state start b es).phase p ≡ certifying))
-    newly P (reads_bank n) m u h = inl h
-    newly P (begins n k) m u h = inl h
-    newly P (reads_own x v n z) m u h = inl h
-    newly P (reads_now x k v n z) m u h = inl h
-    newly P (reads_later x k v n z) m u h = inl h
-    newly P (reads_waits x v n z) m u h = inl h
-    newly P (extends_read x y n) m u h = inl h
-    newly P (reads_extended x k v y n) m u h = inl h
-    newly P (rewrites x v w n z i) m u h = inl h
-    newly P (takes_now x v n z i) m u h = inl h
-    newly P (takes_later x v n z i) m u h = inl h
-    newly P (takes_waits x v n z i) m u h = inl h
-    newly P (extends_write x v y n l) m u h = inl h
-    newly P (writes_extended x v y n l) m u h = inl h
-    newly P (passes y n) m u h = inl h
-    newly P (passes_last y n) m u h = was_sealed m.0.0.1.0 u h
-    newly P (commits_nothing n) m u h = was_sealed m.0.1.0 u h
-    newly P (seals t k n) m u h = was_sealed m.1.0 u h
-    newly P (stores x v t n) m u h = inl h
-    newly P (stores_last x v t n) m u h = inl h
-    newly P (stops r k n) m u h = inl h
-    newly P (aborts r k n) m u h = inl h
-    newly P (frees r o x v n) m u h = inl h
-    newly P (aborts_freed r k x v n) m u h = inl h
-    newly P (aborts_empty r k n) m u h = inl h
-    newly P (withdraws_freed x v n) m u h = inl h
-    newly P (withdraws_empty n) m u h = inl h
+    newly P d m u h = grind arith
 
     -- the versions that a block makes are of objects that p has written
     made_by : (j : Trace K) (P : ℕ) {r : Request K} {n : ℕ} {o o' : Option Conflict} {z : Stepped K} {fs : List (Event K)} → Block (state start b es) p r n o z fs o' → LawfulFrom P (state start b es) fs
         → (x : ℕ) → ((state start b es).phase p ≡ certifying → wrote j (whose j p) x ≡ false) → makers (entry p (made z) ∷ j) x ≡ makers j x
-    made_by j P (reads_bank n) m x w = refl
-    made_by j P (begins n k) m x w = refl
-    made_by j P (reads_own y v n z) m x w = refl
-    made_by j P (reads_now y k v n z) m x w = refl
-    made_by j P (reads_later y k v n z) m x w = refl
-    made_by j P (reads_waits y v n z) m x w = refl
-    made_by j P (extends_read y u n) m x w = refl
-    made_by j P (reads_extended y k v u n) m x w = refl
-    made_by j P (rewrites y v u n z i) m x w = refl
-    made_by j P (takes_now y v n z i) m x w = refl
-    made_by j P (takes_later y v n z i) m x w = refl
-    made_by j P (takes_waits y v n z i) m x w = refl
-    made_by j P (extends_write y v u n l) m x w = refl
-    made_by j P (writes_extended y v u n l) m x w = refl
-    made_by j P (passes y n) m x w = refl
-    made_by j P (passes_last y n) m x w = refl
-    made_by j P (commits_nothing n) m x w = refl
-    made_by j P (seals t k n) m x w = push_false (whose j p) (wrote j (whose j p) x) (makers j x) (w m.1.0)
-    made_by j P (stores y v t n) m x w = refl
-    made_by j P (stores_last y v t n) m x w = refl
-    made_by j P (stops r k n) m x w = refl
-    made_by j P (aborts r k n) m x w = refl
-    made_by j P (frees r o y v n) m x w = refl
-    made_by j P (aborts_freed r k y v n) m x w = refl
-    made_by j P (aborts_empty r k n) m x w = refl
-    made_by j P (withdraws_freed y v n) m x w = refl
-    made_by j P (withdraws_empty n) m x w = refl
+    made_by j P d m x w = grind arith
 
   -- the phases of the other processes
   phase_other : (s : State K) (e : Event K) (q : ℕ) → Within e → (actor e ≡ q → ⊥) → (next s e).phase q ≡ s.phase q
-  phase_other s (begin p) q w d = absurd w
-  phase_other s (ready p c) q w d = put_other s.phase p running q d
-  phase_other s (look p x v) q w d = refl
-  phase_other s (check p x) q w d = refl
-  phase_other s (extend p) q w d = refl
-  phase_other s (answer p x t v) q w d = refl
-  phase_other s (own p x v) q w d = refl
-  phase_other s (write p x v) q w d = refl
-  phase_other s (certify p) q w d = put_other s.phase p certifying q d
-  phase_other s (pass p x) q w d = refl
-  phase_other s (seal p t b) q w d = put_other s.phase p (sealing t) q d
-  phase_other s (finish p) q w d = put_other s.phase p aborting q d
-  phase_other s (move b) q w d = absurd w
-  phase_other s (store p x v t) q w d = refl
-  phase_other s (fail p r) q w d = put_other s.phase p aborting q d
-  phase_other s (free p x v) q w d = refl
-  phase_other s (commit p t) q w d = put_other s.phase p out q d
-  phase_other s (close p) q w d = put_other s.phase p out q d
+  phase_other s e q w d = grind arith
 
   current_same : (a : History) (e : Event K) → Within e → (enter a e).current ≡ a.current
-  current_same a (begin p) w = absurd w
-  current_same a (ready p c) w = refl
-  current_same a (look p x v) w = refl
-  current_same a (check p x) w = refl
-  current_same a (extend p) w = refl
-  current_same a (answer p x t v) w = refl
-  current_same a (own p x v) w = refl
-  current_same a (write p x v) w = refl
-  current_same a (certify p) w = refl
-  current_same a (pass p x) w = refl
-  current_same a (seal p t b) w = refl
-  current_same a (finish p) w = refl
-  current_same a (move b) w = absurd w
-  current_same a (store p x v t) w = refl
-  current_same a (fail p r) w = refl
-  current_same a (free p x v) w = refl
-  current_same a (commit p t) w = refl
-  current_same a (close p) w = refl
+  current_same a e w = grind arith
 
   module _ (P : ℕ) (start : ℕ → K) (b : ℕ → ℕ) (p q : ℕ) (d : p ≡ q → ⊥) where
     phases_other : (es fs : List (Event K)) → AllWithin p fs → (state start b (fs ++ es)).phase q ≡ (state start b es).phase q
@@ -341,18 +194,9 @@ module _ {K : Type 0} where
     pub certified : (p n : ℕ) (f : Option Found) → ((state start b es).phase p ≡ out → ⊥) → desk j p ≡ asked Commit n f
         → ((state start b es).phase p ≡ running) ⊎ Known (certified_at j ((history es).current p))
 
-  -- a request that is a commit
-  commits_is : (r : Request K) → (of_request r).commits ≡ true → r ≡ Commit
-  commits_is Begin e = absurd (true_false (sym e))
-  commits_is (Read x) e = absurd (true_false (sym e))
-  commits_is (Write x v) e = absurd (true_false (sym e))
-  commits_is Commit e = refl
-  commits_is Withdraw e = absurd (true_false (sym e))
-
   -- a commit in hand after a step was in hand before it
   still_commit : (j : Trace K) (w : Option ℕ) (r : Request K) (n : ℕ) (f : Option Found) (a : Option (Answer K)) (m : ℕ) (g : Option Found) → desk_on j w (asked r n f) a ≡ asked Commit m g → r ≡ Commit
-  still_commit j w r n f (Some a) m g e = cc
-  still_commit j w r n f None m g e = cc
+  still_commit j w r n f a m g e = grind arith
 
   -- the two parts of a lawful block
   pub lawful_split : (P : ℕ) (s : State K) (fs es : List (Event K)) → LawfulFrom P s (fs ++ es) → LawfulFrom P s es × LawfulFrom P (states s es) fs
@@ -366,18 +210,11 @@ module _ {K : Type 0} where
     own_is u = ap (λ (o : Option ℕ). is o u) who
 
     desk_is : (z : Stepped K) (d : Desk K) → desk j p ≡ d → desk (entry p (made z) ∷ j) p ≡ desk_on j (whose j p) d z.answer
-    desk_is z d q =
-        cond-true (eqb p p) _ _ (eq-eqb p p refl) ∙ ap (λ (k : Desk K). desk_on j (whose j p) k z.answer) q
+    desk_is z d q = grind arith
 
     -- the certifications on record, unless one begins
     certified_same : (z : Stepped K) (r : Request K) (n : ℕ) (f : Option Found) → desk j p ≡ asked r n f → (r ≡ Commit → Known (certified_at j ((history es).current p))) → (u : ℕ) → certified_at (entry p (made z) ∷ j) u ≡ certified_at j u
-    certified_same z r n f q known u =
-        ap (λ (d : Desk K). cond (certifies d (made z) && is (whose j p) u) (Some (first (certified_at j u) (length j))) (certified_at j u)) q
-        ∙ go (of_request r).commits refl
-      where
-        go : (x : Bool) → (of_request r).commits ≡ x → cond (x && is (whose j p) u) (Some (first (certified_at j u) (length j))) (certified_at j u) ≡ certified_at j u
-        go true e = noted_same (is (whose j p)) ((history es).current p) (length j) own_is (certified_at j) (known (commits_is r e)) u
-        go false e = refl
+    certified_same z r n f q known u = grind arith
 
     -- of the other processes
     certified_others : (z : Stepped K) (u n : ℕ) (f : Option Found) → (p ≡ u → ⊥) → ((state start b es).phase u ≡ out → ⊥) → desk (entry p (made z) ∷ j) u ≡ asked Commit n f
@@ -433,7 +270,7 @@ module _ {K : Type 0} where
         in_certification e = differ certifying out tt (sym (put_same (state start b es).phase p certifying p refl) ∙ e)
 
         now_certified : (u : ℕ) → certified_at (entry p (made z) ∷ j) u ≡ cond (is (whose j p) u) (Some (first (certified_at j u) (length j))) (certified_at j u)
-        now_certified u = ap (λ (d : Desk K). cond (certifies d (made z) && is (whose j p) u) (Some (first (certified_at j u) (length j))) (certified_at j u)) q
+        now_certified u = cc
 
         here : Leaves p fs (certify p ∷ es) → (u x : ℕ) (g : Option Found) → ((state start b (fs ++ certify p ∷ es)).phase u ≡ out → ⊥) → desk (entry p (made z) ∷ j) u ≡ asked Commit x g → (p ≡ u) ⊎ (p ≡ u → ⊥)
             → ((state start b (fs ++ certify p ∷ es)).phase u ≡ running) ⊎ Known (certified_at (entry p (made z) ∷ j) ((history (fs ++ certify p ∷ es)).current u))

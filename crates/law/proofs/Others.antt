@@ -1,7 +1,7 @@
 -- A step of one process leaves the transactions of the others as they stand on record.
 use Rattle.std.proofs.Common.{◌≡◌, ℕ, suc, ◌<◌, ◌≤◌, Bool, true, false, ◌&&◌, eqb, List, ◌∷◌, Option, sym, refl, ap, inl, inr, arith}
 use mathlib.Core.Path.{transport}
-use Rattle.std.proofs.lemmas.Bool.{ne_eqb, cond-false}
+use Rattle.std.proofs.lemmas.Bool.{ne_eqb, cond-false, and_right}
 use Rattle.tables.specs.declared.reply.Request.{Request}
 use Rattle.tables.specs.declared.reply.Stepped.{Stepped}
 use Rattle.protocol.specs.Table.{put}
@@ -23,10 +23,6 @@ use Rattle.law.proofs.Traces.{push_false}
 use Rattle.law.proofs.Versions.{name_old}
 use Rattle.law.proofs.Standing.{Standing, Going, standing_keeps}
 
-and_false : (x y : Bool) → y ≡ false → (x && y) ≡ false
-and_false true y e = e
-and_false false y e = refl
-
 module _ {K : Type 0} where
   abbrev pub StandingOf : (ℕ → K) → (ℕ → ℕ) → Trace K → List (Event K) → ℕ → Type 0
   StandingOf start b j es q =
@@ -45,10 +41,10 @@ module _ {K : Type 0} where
   -- an entry of process p is none of transaction u
   module _ (j : Trace K) (p : ℕ) (z : Stepped K) (u : ℕ) (n : is (whose j p) u ≡ false) where
     pub first_other : (f : Act K → Bool) → first_at f (entry p (made z) ∷ j) u ≡ first_at f j u
-    first_other f = cond-false (f (made z) && is (whose j p) u) _ _ (and_false (f (made z)) (is (whose j p) u) n)
+    first_other f = cond-false (f (made z) && is (whose j p) u) _ _ (and_right (f (made z)) (is (whose j p) u) n)
 
     pub certified_other : certified_at (entry p (made z) ∷ j) u ≡ certified_at j u
-    certified_other = cond-false (certifies (desk j p) (made z) && is (whose j p) u) _ _ (and_false (certifies (desk j p) (made z)) (is (whose j p) u) n)
+    certified_other = cond-false (certifies (desk j p) (made z) && is (whose j p) u) _ _ (and_right (certifies (desk j p) (made z)) (is (whose j p) u) n)
 
     pub holds_other : holds (entry p (made z) ∷ j) u ≡ holds j u
     holds_other = push_false (hold j (effect_of (made z)).takes) (is (whose j p) u) (holds j u) n

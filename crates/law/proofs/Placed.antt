@@ -4,7 +4,7 @@ use Rattle.std.proofs.lemmas.Bool.{cases_eq, eq-eqb, ne_eqb, cond-true, cond-fal
 use Rattle.tables.specs.declared.reply.Request.{Request}
 use Rattle.tables.specs.declared.reply.Request.TheVariants.{Begin, Read, Write, Commit, Withdraw}
 use Rattle.protocol.specs.Table.{put}
-use Rattle.protocol.specs.Protocol.{Phase, Event, Lawful, state}
+use Rattle.protocol.specs.Protocol.{Event, Lawful, state}
 use Rattle.protocol.specs.Protocol.Phase.{out, starting, running, sealing}
 use Rattle.protocol.specs.Protocol.Event.{begin}
 use Rattle.protocol.specs.History.{history}
@@ -14,12 +14,12 @@ use Rattle.protocol.proofs.Invariant.{differ, back}
 use Rattle.protocol.proofs.Laws.{all}
 use Rattle.law.specs.Trace.{Trace, entry}
 use Rattle.law.specs.Trace.Act.{placed}
-use Rattle.law.specs.Ledger.{Found, Desk, is, push, count, whose, begun_at, ended_at, placed_at, sealed_at, stored_at, makers, taken, readings, holds, requests, desk, certified_at}
+use Rattle.law.specs.Ledger.{Found, is, push, count, whose, begun_at, ended_at, placed_at, sealed_at, stored_at, makers, taken, readings, holds, requests, desk, certified_at}
 use Rattle.law.specs.Ledger.Desk.{free, asked}
 use Rattle.law.specs.Law.{Known}
 use Rattle.law.proofs.Traces.{unborn_at, unborn_requests}
 use Rattle.law.proofs.Times.{ends_place}
-use Rattle.law.proofs.Requests.{AsksAs, todo, started, ops_ask}
+use Rattle.law.proofs.Requests.{todo, started, ops_ask}
 use Rattle.law.proofs.Standing.{Standing, HandAs, Owing, in_starting, in_running}
 use Rattle.law.proofs.Core.{OnRecord, Core, CoreOf, played}
 use Rattle.law.proofs.Others.{StandingOf, standing_at, desk_other}
@@ -86,9 +86,7 @@ module _ {K : Type 0} where
           no_hand x k v g = absurd (let l = (c.base.standing p in_run).in_hand run x k v g in let i : free ≡ asked (Read x) l.0.0 _ = sym idle ∙ l.0.1 in cc)
 
           before : requests j ((history es).current p) ≡ started ((commits_of es).operations ((history es).current p))
-          before =
-              subst (λ (g : Phase). AsksAs g (desk j p) (requests j ((history es).current p)) ((commits_of es).operations ((history es).current p))) run (c.base.standing p in_run).asks
-              ∙ ap (λ (k : Desk K). todo k ++ started ((commits_of es).operations ((history es).current p))) idle
+          before = grind arith
 
       others : (r : Request K) (q : ℕ) → (p ≡ q → ⊥) → ((state start b es).phase q ≡ out → ⊥)
           → Standing start (makers j) (history es).maker (history es).seals (commits_of es).operations (desk (entry p (placed r) ∷ j) q) ((state start b es).phase q) ((state start b es).hand q) ((history es).fetched q) (begun_at j ((history es).current q)) ((commits_of es).sealed ((history es).current q))
@@ -109,8 +107,7 @@ module _ {K : Type 0} where
           ]
 
       still_certified : (r : Request K) (q n : ℕ) (f : Option Found) → ((state start b es).phase q ≡ out → ⊥) → desk (entry p (placed r) ∷ j) q ≡ asked Commit n f → ((state start b es).phase q ≡ running) ⊎ Known (certified_at j ((history es).current q))
-      still_certified r q n f o e =
-          elim (cases_eq p q) [ inl d ↦ inl (ap (state start b es).phase (sym d) ∙ run) | inr d ↦ c.certified q n f o (sym (desk_other j p q (placed r) d) ∙ e) ]
+      still_certified r q n f o e = grind arith
 
       pub matches_ask : (r : Request K) → (r ≡ Begin → ⊥) → Matches start b (entry p (placed r) ∷ j) es
       matches_ask Begin d = absurd (d refl)
@@ -133,8 +130,7 @@ module _ {K : Type 0} where
       new = sym c.base.counts
 
       own_new : (u : ℕ) → is (cond (eqb p p) (Some (count j)) (whose j p)) u ≡ eqb (history es).begun u
-      own_new u =
-          ap (λ (o : Option ℕ). is o u) (cond-true (eqb p p) (Some (count j)) (whose j p) (eq-eqb p p refl)) ∙ ap (λ (n : ℕ). eqb n u) (sym new)
+      own_new u = grind arith
 
       unborn : (t : ℕ) → t ≡ (history es).begun → count j ≤ t
       unborn t e = let n = new in omega arith
@@ -218,10 +214,4 @@ module _ {K : Type 0} where
           }
         where
           who_new : (q u : ℕ) → (p ≡ q) ⊎ (p ≡ q → ⊥) → cond (eqb p q) (Some (count j)) (whose j q) ≡ Some u → put (history es).current p (history es).begun q ≡ u
-          who_new q u (inl d) e =
-              let k : Some (count j) ≡ Some u = sym (cond-true (eqb p q) (Some (count j)) (whose j q) (eq-eqb p q d)) ∙ e in
-              let i : count j ≡ u = cc in
-              put_same (history es).current p (history es).begun q d ∙ new ∙ i
-          who_new q u (inr d) e =
-              put_other (history es).current p (history es).begun q d
-              ∙ c.base.who q u (sym (cond-false (eqb p q) (Some (count j)) (whose j q) (ne_eqb p q d)) ∙ e)
+          who_new q u d e = grind arith

@@ -1,7 +1,7 @@
 -- The requests on record, the operations of the protocol, and the run alone.
-use Rattle.std.proofs.Common.{◌≡◌, ℕ, zero, suc, Bool, true, false, cond, eqb, List, [], ◌∷◌, ◌++◌, Some, sym, refl, ap, ◌∙◌, subst, inl, inr}
+use Rattle.std.proofs.Common.{◌≡◌, ℕ, zero, suc, Bool, true, false, cond, eqb, List, [], ◌∷◌, ◌++◌, sym, refl, ap, ◌∙◌, subst, inl, inr, arith}
 use mathlib.Core.Path.{fun_ext}
-use Rattle.std.proofs.lemmas.Bool.{cases_eq}
+use Rattle.std.proofs.lemmas.Bool.{true≢false, cases_eq}
 use Rattle.tables.specs.declared.reply.Request.{Request}
 use Rattle.tables.specs.declared.reply.Request.TheVariants.{Begin, Read, Write, Commit, Withdraw}
 use Rattle.protocol.specs.Table.{put}
@@ -11,10 +11,10 @@ use Rattle.protocol.specs.Alone.{Operation, after, Agrees, memory, Replays}
 use Rattle.protocol.specs.Alone.Operation.{got, set}
 use Rattle.protocol.proofs.Updates.{put_same, put_other, put_when}
 use Rattle.law.specs.Trace.{Trace}
-use Rattle.law.specs.Ledger.{Reading, Desk, first, requests, readings}
+use Rattle.law.specs.Ledger.{Reading, Desk, requests, readings}
 use Rattle.law.specs.Ledger.Desk.{free, asked}
 use Rattle.law.specs.Law.{In, Alone, shows, fed, gotten, alone, contents, SameReads}
-use Rattle.law.proofs.Traces.{when, true_false}
+use Rattle.law.proofs.Traces.{when}
 
 module _ {K : Type 0} where
   -- the requests of operations, and what their reads got
@@ -59,11 +59,10 @@ module _ {K : Type 0} where
       (c : Ops readings requests operations sealed) (t : ℕ) where
     -- a sealed transaction is another than one that is not
     not_sealed : sealed t ≡ false → (u : ℕ) → sealed u ≡ true → t ≡ u → ⊥
-    not_sealed o u h e = true_false (sym h ∙ ap sealed (sym e) ∙ o)
+    not_sealed o u h e = true≢false (sym h ∙ ap sealed (sym e) ∙ o)
 
     still : (d : Operation K) → sealed t ≡ false → (u : ℕ) → sealed u ≡ true → requests u ≡ Commit ∷ started (put operations t (d ∷ operations t) u)
-    still d o u h =
-        c.asks u h ∙ ap (λ (ds : List (Operation K)). Commit ∷ started ds) (sym (put_other operations t (d ∷ operations t) u (not_sealed o u h)))
+    still d o u h = grind arith
 
     -- t writes
     pub ops_set : (x : ℕ) (v : K) → sealed t ≡ false → Ops readings requests (put operations t (set x v ∷ operations t)) sealed
@@ -120,12 +119,7 @@ module _ {K : Type 0} where
   pub sees_after : (m : Alone K) (ds : List (Operation K)) (x : ℕ) → shows (fed m (started ds)) x ≡ after m.own ds x
   sees_after m [] x = refl
   sees_after m (got y v ∷ ds) x = sees_after m ds x
-  sees_after m (set y v ∷ ds) x = go (eqb y x) (sees_after m ds x)
-    where
-      go : (b : Bool) → shows (fed m (started ds)) x ≡ after m.own ds x
-          → first (cond b (Some v) ((fed m (started ds)).pend x)) ((fed m (started ds)).own x) ≡ cond b v (after m.own ds x)
-      go true h = refl
-      go false h = h
+  sees_after m (set y v ∷ ds) x = grind (arith, sees_after m ds x)
 
   pub gotten_results : (m : Alone K) (ds : List (Operation K)) → Agrees m.own ds → gotten m (started ds) ≡ results ds
   gotten_results m [] a = refl

@@ -1,6 +1,7 @@
 -- From the protocol's law to the law over traces: serializability, and the contents of versions.
 use Rattle.std.proofs.Common.{◌≡◌, ℕ, zero, suc, ◌<◌, ◌≤◌, Bool, true, false, cond, ◌⊎◌, List, ◌∷◌, sym, refl, ap, ◌∙◌, subst, inl, inr, arith}
-use Rattle.std.proofs.lemmas.Bool.{cases_eq}
+use Rattle.std.proofs.lemmas.Bool.{cases_eq, cond_both, true≢false}
+use Rattle.std.proofs.lemmas.Option.{none-some}
 use Rattle.tables.specs.declared.reply.Request.{Request}
 use Rattle.protocol.specs.Protocol.{Event, Lawful, state}
 use Rattle.protocol.specs.History.{history}
@@ -9,7 +10,6 @@ use Rattle.protocol.proofs.Laws.{all, serial_law}
 use Rattle.law.specs.Trace.{Trace}
 use Rattle.law.specs.Ledger.{Maker, certified_at}
 use Rattle.law.specs.Law.{In, Earlier, InOrder, Serial, Settled, Content, Genuine, rested, fed}
-use Rattle.law.proofs.Traces.{none_some, true_false, either_way}
 use Rattle.law.proofs.Versions.{name}
 use Rattle.law.proofs.Requests.{sees_after, alone_leaves, same_reads}
 use Rattle.law.proofs.Contents.{ContentOf}
@@ -26,9 +26,7 @@ module _ {K : Type 0} where
 
       go : (In t (committed y k) → (i : ℕ) × (i < k) × (y.order i ≡ t) × (y.sealed t ≡ true)) → (b : Bool) → y.sealed (y.order k) ≡ b → In t (cond b (y.order k ∷ committed y k) (committed y k))
           → (i : ℕ) × (i < suc k) × (y.order i ≡ t) × (y.sealed t ≡ true)
-      go rec true e (inl m) = (k, omega arith, sym m, ap y.sealed m ∙ e)
-      go rec true e (inr m) = up (rec m)
-      go rec false e m = up (rec m)
+      go rec b e m = grind arith
 
   in_committed : (y : Commits K) (k i : ℕ) → i < k → y.sealed (y.order i) ≡ true → In (y.order i) (committed y k)
   in_committed y zero i l h = absurd (omega arith)
@@ -36,7 +34,7 @@ module _ {K : Type 0} where
     where
       go : (i < k → In (y.order i) (committed y k)) → (k ≡ i) ⊎ (k ≡ i → ⊥) → (b : Bool) → y.sealed (y.order k) ≡ b → In (y.order i) (cond b (y.order k ∷ committed y k) (committed y k))
       go rec (inl e) true q = inl (ap y.order (sym e))
-      go rec (inl e) false q = absurd (true_false (sym h ∙ ap (λ (n : ℕ). y.sealed (y.order n)) (sym e) ∙ q))
+      go rec (inl e) false q = absurd (true≢false (sym h ∙ ap (λ (n : ℕ). y.sealed (y.order n)) (sym e) ∙ q))
       go rec (inr e) true q = inr (rec (omega arith))
       go rec (inr e) false q = rec (omega arith)
 
@@ -44,7 +42,7 @@ module _ {K : Type 0} where
     in_order : (k : ℕ) → k ≤ (commits_of es).certs → InOrder j (committed (commits_of es) k)
     in_order zero l = tt
     in_order (suc k) l =
-        either_way (InOrder j) ((commits_of es).sealed ((commits_of es).order k)) _ _
+        cond_both ((commits_of es).sealed ((commits_of es).order k)) _ _ (InOrder j)
         (λ e. (
           in_order k (omega arith),
           λ u h.
@@ -65,7 +63,7 @@ module _ {K : Type 0} where
               let t = (history es).maker ((history es).latest x) in
               let k = c.base.core.seals.noted_too t (c.base.core.seals.made ((history es).latest x) e.0 ((all P start b es lawful).kept.vers.newest x)) in
               let s = h t x k e.1.0 in
-              none_some (sym e.1.1 ∙ s.1)
+              none-some _ (sym e.1.1 ∙ s.1)
               )
         ]
 

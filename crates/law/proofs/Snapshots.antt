@@ -1,6 +1,7 @@
 -- From the protocol's law to the law over traces: no transaction reads a version older than one that it comes after.
 use Rattle.std.proofs.Common.{◌≡◌, ℕ, zero, suc, ◌<◌, ◌≤◌, ◌⊎◌, List, [], ◌∷◌, Some, sym, refl, ap, ◌∙◌, subst, inl, inr, arith}
 use Rattle.std.proofs.lemmas.Bool.{cases_lt}
+use Rattle.std.proofs.lemmas.Option.{none-some}
 use Rattle.protocol.specs.Protocol.{Event, Lawful}
 use Rattle.protocol.specs.History.{Access, Mark, history}
 use Rattle.protocol.specs.History as events
@@ -12,10 +13,10 @@ use Rattle.law.specs.Trace.{Trace}
 use Rattle.law.specs.Ledger.{Maker, Reading, placed_at, readings, holds, makers, taken, begins}
 use Rattle.law.specs.Ledger.Maker.{opening, by}
 use Rattle.law.specs.Ledger.Found.{version}
-use Rattle.law.specs.Law.{In, Known, NewerBy, Newer, ReadOf, Replaced, Follows, ComesAfter, KnownTo, Fair, Consistent}
+use Rattle.law.specs.Law.{In, NewerBy, Newer, ReadOf, Replaced, Follows, ComesAfter, KnownTo, Fair, Consistent}
 use Rattle.law.specs.Law.Follows.{reading as follows_reading, replacing as follows_replacing, chain as follows_chain}
 use Rattle.law.specs.Law.ComesAfter.{reading as after_reading, replacing as after_replacing, later as after_later, chain as after_link}
-use Rattle.law.proofs.Traces.{none_some, unborn_at, hold_taken, among_in}
+use Rattle.law.proofs.Traces.{unborn_at, hold_taken, among_in}
 use Rattle.law.proofs.Versions.{name, name_made, Chain}
 use Rattle.law.proofs.Accesses.{Dated, Recorded}
 use Rattle.law.proofs.Writers.{writers}
@@ -26,22 +27,17 @@ opening_by e = cc
 
 -- a version with a maker is none of the opening's
 named : (maker : ℕ → ℕ) (i t : ℕ) → by t ≡ name maker i → (0 < i) × (maker i ≡ t)
-named maker zero t e = absurd (opening_by (sym e))
-named maker (suc i) t e = (omega arith, (let k : t ≡ maker (suc i) = cc in sym k))
+named maker i t e = grind arith
 
 named_opening : (maker : ℕ → ℕ) (i : ℕ) → opening ≡ name maker i → i ≡ 0
-named_opening maker zero e = refl
-named_opening maker (suc i) e = absurd (opening_by e)
+named_opening maker i e = grind arith
 
 -- the versions of an object on record are those of the protocol, in the same order
 chain_in : (over : ℕ → ℕ → Mark) (maker : ℕ → ℕ) (x : ℕ) → ((i h : ℕ) → over i x ≡ some h → h < i) → (u k : ℕ) (ts : List ℕ) → Chain over maker x k ts → In u ts
     → (i : ℕ) × (h : ℕ) × (0 < i) × (i ≤ k) × (over i x ≡ some h) × (maker i ≡ u)
 chain_in over maker x older u k [] c i = absurd i
 chain_in over maker x older u k (t ∷ ts) c (inl e) = (k, c.0, c.1, omega arith, c.2, c.3 ∙ sym e)
-chain_in over maker x older u k (t ∷ ts) c (inr i) =
-    let d = chain_in over maker x older u c.0 ts c.4 i in
-    let l = older k c.0 c.2 in
-    let m = d.3 in (d.0, d.1, d.2, omega arith, d.4, d.5)
+chain_in over maker x older u k (t ∷ ts) c (inr i) = grind (arith, chain_in over maker x older u c.0 ts c.4 i)
 
 chain_newer : (over : ℕ → ℕ → Mark) (maker : ℕ → ℕ) (x : ℕ) → ((i h : ℕ) → over i x ≡ some h → h < i) → (u m k : ℕ) (ts : List ℕ) → Chain over maker x k ts → NewerBy u m ts
     → (i : ℕ) × (h : ℕ) × (n : ℕ) × (i ≤ k) × (over i x ≡ some h) × (maker i ≡ u) × (0 < n) × (n < i) × (maker n ≡ m)
@@ -50,10 +46,7 @@ chain_newer over maker x older u m k (t ∷ ts) c (inl e) =
     let d = chain_in over maker x older m c.0 ts c.4 e.1 in
     let l = older k c.0 c.2 in
     let n = d.3 in (k, c.0, d.0, omega arith, c.2, c.3 ∙ sym e.0, d.2, omega arith, d.5)
-chain_newer over maker x older u m k (t ∷ ts) c (inr i) =
-    let d = chain_newer over maker x older u m c.0 ts c.4 i in
-    let l = older k c.0 c.2 in
-    let n = d.3 in (d.0, d.1, d.2, omega arith, d.4, d.5, d.6, d.7, d.8)
+chain_newer over maker x older u m k (t ∷ ts) c (inr i) = grind (arith, chain_newer over maker x older u m c.0 ts c.4 i)
 
 module _ {K : Type 0} (P : ℕ) (start : ℕ → K) (b : ℕ → ℕ) (j : Trace K) (es : List (Event K)) (lawful : Lawful P start b es) (c : Matches start b j es) where
   bound : (t : ℕ) (a : Access) → events.In a ((history es).log t) → events.version a ≤ (history es).seals
@@ -125,7 +118,7 @@ module _ {K : Type 0} (P : ℕ) (start : ℕ → K) (b : ℕ → ℕ) (j : Trace
       begun_too m h =
           elim (cases_lt t (history es).begun) [
             | inl l ↦ l
-            | inr l ↦ absurd (none_some (sym (unborn_at begins j t (let k = c.base.counts in omega arith)) ∙ h))
+            | inr l ↦ absurd (none-some _ (sym (unborn_at begins j t (let k = c.base.counts in omega arith)) ∙ h))
           ]
   comes_after (after_link w f g) = after_chain (comes_after f) (comes_after g)
 

@@ -1,5 +1,5 @@
 -- How the open transaction of a process stands on record, by its phase in the protocol; and what sealed ones have still to store.
-use Rattle.std.proofs.Common.{◌≡◌, ℕ, ◌<◌, ◌≤◌, Bool, true, not, T, eqb, ◌⊎◌, List, [], ◌∷◌, ◌++◌, Some, None, Option, sym, ap, ◌∙◌, inl, inr, arith}
+use Rattle.std.proofs.Common.{◌≡◌, ℕ, ◌<◌, ◌≤◌, Bool, true, not, T, eqb, ◌⊎◌, List, [], ◌∷◌, ◌++◌, Some, None, Option, sym, ap, ◌∙◌, arith}
 use Rattle.tables.specs.declared.reply.Request.{Request}
 use Rattle.tables.specs.declared.reply.Request.TheVariants.{Begin, Read, Commit}
 use Rattle.protocol.specs.Table.{put}
@@ -8,8 +8,8 @@ use Rattle.protocol.specs.Protocol.Hand.{full}
 use Rattle.protocol.specs.Protocol.Held.{nobody, by}
 use Rattle.protocol.specs.Protocol.Phase.{starting, running, certifying, aborting, sealing}
 use Rattle.protocol.specs.Alone.{Operation, after}
-use Rattle.protocol.proofs.Updates.{put_other, put_is}
-use Rattle.protocol.proofs.Invariant.{tag, differ, back}
+use Rattle.protocol.proofs.Updates.{put_other}
+use Rattle.protocol.proofs.Invariant.{tag, back}
 use Rattle.law.specs.Ledger.{Hold, Desk, latest}
 use Rattle.law.specs.Ledger.Desk.{asked}
 use Rattle.law.specs.Ledger.Found.{version}
@@ -45,65 +45,21 @@ module _ {K : Type 0} where
   -- by the phase
   module _ (start : ℕ → K) (makers : ℕ → List ℕ) (maker : ℕ → ℕ) (seals : ℕ) (operations : ℕ → List (Operation K)) (d : Desk K) (hand : Hand K) (fetched : ℕ)
       (begun : Option ℕ) (sealed : Bool) (rs : List (Request K)) (ds : List (Operation K)) (hs : List Hold) where
-    going_not : (f : Phase) → T (not (eqb (tag f) 1)) → T (not (eqb (tag f) 2)) → Going f → ⊥
-    going_not f a b (inl e) = differ f running a e
-    going_not f a b (inr e) = differ f certifying b e
-
     pub in_starting : begun ≡ None → rs ≡ Begin ∷ [] → ds ≡ [] → Standing start makers maker seals operations d starting hand fetched begun sealed rs ds hs
-    in_starting a b c =
-        record {
-          unbegun = λ e. a;
-          answered = λ e. absurd (going_not starting tt tt e);
-          sealed_too = λ u e. absurd (differ starting (sealing u) tt e);
-          covers = λ e. absurd (going_not starting tt tt e);
-          in_hand = λ e. absurd (differ starting running tt e);
-          asks = (b, c);
-        }
+    in_starting a b c = grind arith
 
     pub in_running : Known begun → Covers makers hs → HandAs start maker seals operations d hand fetched → rs ≡ todo d ++ started ds
         → Standing start makers maker seals operations d running hand fetched begun sealed rs ds hs
-    in_running k a b c =
-        record {
-          unbegun = λ e. absurd (differ running starting tt e);
-          answered = λ e. k;
-          sealed_too = λ u e. absurd (differ running (sealing u) tt e);
-          covers = λ e. a;
-          in_hand = λ e. b;
-          asks = c;
-        }
+    in_running k a b c = grind arith
 
     pub in_certifying : Known begun → Covers makers hs → rs ≡ Commit ∷ started ds → Standing start makers maker seals operations d certifying hand fetched begun sealed rs ds hs
-    in_certifying k a b =
-        record {
-          unbegun = λ e. absurd (differ certifying starting tt e);
-          answered = λ e. k;
-          sealed_too = λ u e. absurd (differ certifying (sealing u) tt e);
-          covers = λ e. a;
-          in_hand = λ e. absurd (differ certifying running tt e);
-          asks = b;
-        }
+    in_certifying k a b = grind arith
 
     pub in_sealing : (t : ℕ) → sealed ≡ true → Standing start makers maker seals operations d (sealing t) hand fetched begun sealed rs ds hs
-    in_sealing t a =
-        record {
-          unbegun = λ e. absurd (differ (sealing t) starting tt e);
-          answered = λ e. absurd (going_not (sealing t) tt tt e);
-          sealed_too = λ u e. a;
-          covers = λ e. absurd (going_not (sealing t) tt tt e);
-          in_hand = λ e. absurd (differ (sealing t) running tt e);
-          asks = tt;
-        }
+    in_sealing t a = grind arith
 
     pub in_aborting : Standing start makers maker seals operations d aborting hand fetched begun sealed rs ds hs
-    in_aborting =
-        record {
-          unbegun = λ e. absurd (differ aborting starting tt e);
-          answered = λ e. absurd (going_not aborting tt tt e);
-          sealed_too = λ u e. absurd (differ aborting (sealing u) tt e);
-          covers = λ e. absurd (going_not aborting tt tt e);
-          in_hand = λ e. absurd (differ aborting running tt e);
-          asks = tt;
-        }
+    in_aborting = grind arith
 
   -- over versions and operations of which this transaction's are as they were
   pub standing_keeps : (start : ℕ → K) (makers makers' : ℕ → List ℕ) (maker maker' : ℕ → ℕ) (seals seals' : ℕ) (operations operations' : ℕ → List (Operation K)) (d : Desk K) (f : Phase) (hand : Hand K)
@@ -142,14 +98,7 @@ module _ {K : Type 0} where
 
     -- x is free
     pub owing_free : (x : ℕ) → Owing phase (put held x nobody) current latest maker operations
-    owing_free x =
-        record {
-          owes = λ q y v u e h.
-              elim (put_is held x nobody y (by q v) h) [
-                | inl d ↦ absurd (let k = d.1 in cc)
-                | inr d ↦ c.owes q y v u e d.1
-              ];
-        }
+    owing_free x = grind arith
 
     performed : (p : ℕ) (d : Operation K) → ((q : ℕ) (u : ℕ) → phase q ≡ sealing u → current q ≡ current p → ⊥) → (q y : ℕ) (w : K) (u : ℕ) → phase q ≡ sealing u → held y ≡ by q w
         → Owed latest maker (put operations (current p) (d ∷ operations (current p))) (current q) y w
@@ -160,18 +109,7 @@ module _ {K : Type 0} where
     -- p, which is not sealed, writes x and performs that
     pub owing_write : (p x : ℕ) (v : K) (d : Operation K) → phase p ≡ running → ((q : ℕ) (u : ℕ) → phase q ≡ sealing u → current q ≡ current p → ⊥)
         → Owing phase (put held x (by p v)) current latest maker (put operations (current p) (d ∷ operations (current p)))
-    owing_write p x v d run apart =
-        record {
-          owes = λ q y w u e h.
-              elim (put_is held x (by p v) y (by q w) h) [
-                | inl k ↦ absurd (
-                    let i = k.1 in
-                    let z : p ≡ q = cc in
-                    differ (sealing u) running tt (sym e ∙ ap phase (sym z) ∙ run)
-                    )
-                | inr k ↦ performed p d apart q y w u e k.1
-              ];
-        }
+    owing_write p x v d run apart = grind arith
 
     -- p, which is not sealed, performs an operation
     pub owing_perform : (p : ℕ) (d : Operation K) → ((q : ℕ) (u : ℕ) → phase q ≡ sealing u → current q ≡ current p → ⊥)

@@ -1,13 +1,14 @@
 -- The times on record, and the order of events: ends, certifications, seals and the seals before a begin.
 use Rattle.std.proofs.Common.{◌≡◌, ℕ, suc, ◌<◌, ◌≤◌, Bool, true, cond, eqb, ◌⊎◌, Some, None, Option, sym, refl, ap, ◌∙◌, subst, inl, inr, arith}
 use Rattle.std.proofs.lemmas.Bool.{cases_eq, eq-eqb, ne_eqb, cond-true, cond-false}
+use Rattle.std.proofs.lemmas.Option.{same_Some}
 use Rattle.protocol.specs.Table.{put}
 use Rattle.protocol.specs.History.{Mark}
 use Rattle.protocol.specs.History.Mark.{some}
 use Rattle.protocol.proofs.Updates.{put_same, put_other}
 use Rattle.law.specs.Ledger.{first}
 use Rattle.law.specs.Law.{Known, Earlier}
-use Rattle.law.proofs.Traces.{some_same, known_or, first_known, first_new}
+use Rattle.law.proofs.Traces.{known_or, first_new}
 
 -- a time that is noted for one transaction, unless it has one already
 abbrev pub noted : (ℕ → Bool) → (ℕ → Option ℕ) → ℕ → ℕ → Option ℕ
@@ -29,13 +30,11 @@ module _ (b : ℕ → Bool) (t k : ℕ) (own : (u : ℕ) → b u ≡ eqb t u) wh
   noted_new f n = mine f t refl ∙ first_new (f t) k n
 
   pub noted_known : (f : ℕ → Option ℕ) (u : ℕ) → Known (f u) → noted b f k u ≡ f u
-  noted_known f u n =
-      elim (cases_eq t u) [ inl e ↦ mine f u e ∙ first_known (f u) k n | inr e ↦ noted_other f u e ]
+  noted_known f u n = grind arith
 
   -- once it is known for t, nothing changes
   pub noted_same : (f : ℕ → Option ℕ) → Known (f t) → (u : ℕ) → noted b f k u ≡ f u
-  noted_same f n u =
-      elim (cases_eq t u) [ inl e ↦ noted_known f u (subst (λ (v : ℕ). Known (f v)) e n) | inr e ↦ noted_other f u e ]
+  noted_same f n u = grind arith
 
   pub noted_has : (f : ℕ → Option ℕ) → Known (noted b f k t)
   noted_has f = (first (f t) k, mine f t refl)
@@ -44,8 +43,7 @@ module _ (b : ℕ → Bool) (t k : ℕ) (own : (u : ℕ) → b u ≡ eqb t u) wh
   noted_keeps f u n = (n.0, noted_known f u n ∙ n.1)
 
   pub noted_was : (f : ℕ → Option ℕ) (u : ℕ) → Known (noted b f k u) → (t ≡ u) ⊎ Known (f u)
-  noted_was f u n =
-      elim (cases_eq t u) [ inl e ↦ inl e | inr e ↦ inr (n.0, sym (noted_other f u e) ∙ n.1) ]
+  noted_was f u n = grind arith
 
 pub earlier_at : (a b a' b' : Option ℕ) → a' ≡ a → b' ≡ b → Earlier a b → Earlier a' b'
 earlier_at a b a' b' p q e = (e.0, e.1, p ∙ e.2, q ∙ e.3, e.4)
@@ -70,7 +68,7 @@ ends_end ended_at placed_at ended begun_at b t k now own past going c =
           elim (cases_eq t u) [
             | inl e ↦ absurd (
                 let i : noted b ended_at k u ≡ Some k = subst (λ (w : ℕ). noted b ended_at k w ≡ Some k) e (noted_new b t k own ended_at unknown) in
-                let n : k ≡ h.0 = some_same (sym i ∙ h.2) in
+                let n : k ≡ h.0 = same_Some _ _ (sym i ∙ h.2) in
                 let m = past v h.1 h.3 in
                 let o = h.4 in
                 omega arith
@@ -237,7 +235,7 @@ bases_begin begun_at sealed_at base seals maker b t k own past new c =
           elim (cases_eq t u) [
             | inl e ↦ absurd (
                 let w : noted b begun_at k u ≡ Some k = subst (λ (v : ℕ). noted b begun_at k v ≡ Some k) e (noted_new b t k own begun_at new) in
-                let x : k ≡ h.0 = some_same (sym w ∙ h.2) in
+                let x : k ≡ h.0 = same_Some _ _ (sym w ∙ h.2) in
                 let y = past (maker i) h.1 h.3 in
                 let o = h.4 in
                 omega arith
@@ -277,5 +275,4 @@ bases_make begun_at f sealed base seals maker b t k own past low new s c =
     }
   where
     old : (i : ℕ) → 0 < i → i ≤ seals → (suc seals ≡ i → ⊥) → noted b f k (put maker (suc seals) t i) ≡ f (maker i)
-    old i m n e =
-        ap (noted b f k) (put_other maker (suc seals) t i e) ∙ noted_known b t k own f (maker i) (s.noted_too (maker i) (s.made i m n))
+    old i m n e = grind arith

@@ -1,13 +1,13 @@
 -- What holds of every trace, of whatever run.
 use Rattle.std.proofs.Common.{◌≡◌, ℕ, suc, ◌<◌, ◌≤◌, Bool, true, false, cond, ◌&&◌, ◌||◌, eqb, ◌⊎◌, List, [], ◌∷◌, length, Some, None, Option, sym, refl, ap, ◌∙◌, subst, inl, inr, arith}
-use Rattle.std.proofs.lemmas.Bool.{cases_eq, cases_Bool, eq-eqb, ne_eqb, eqb-true, cond-true, cond-false}
+use Rattle.std.proofs.lemmas.Bool.{cases_eq, cases_Bool, eq-eqb, ne_eqb, eqb-true, cond-true, cond-false, or_right, and_right}
+use Rattle.std.proofs.lemmas.Option.{same_Some}
 use Rattle.tables.specs.declared.reply.Answer.{Answer}
 use Rattle.tables.specs.declared.reply.Request.{Request}
 use Rattle.law.specs.Trace.{Act, Entry, Trace}
-use Rattle.law.specs.Trace.Act.{placed, made}
-use Rattle.law.specs.Ledger.{Desk, Found, Reading, Hold, first, is, among, push, begins, count, whose, belongs, first_at, requests, taken, hold, holds, readings, reading, desk, desk_after, desk_on, certifies, certified_at, request_of, effect_of, answer_of, finds, of_request}
-use Rattle.law.specs.Ledger.Desk.{free, asked}
-use Rattle.law.specs.Law.{In, Known, Earlier}
+use Rattle.law.specs.Ledger.{Desk, Found, Reading, Hold, first, is, among, push, begins, count, whose, belongs, first_at, requests, taken, hold, holds, readings, reading, desk, desk_after, desk_on, certifies, certified_at, request_of, effect_of, answer_of}
+use Rattle.law.specs.Ledger.Desk.{asked}
+use Rattle.law.specs.Law.{In, Known}
 
 -- a choice by a test that says whether two numbers are equal
 pub when : {A : Type 0} (Q : A → Type 0) (b : Bool) (t u : ℕ) (x y : A) → b ≡ eqb t u → (t ≡ u → Q x) → ((t ≡ u → ⊥) → Q y) → Q (cond b x y)
@@ -17,46 +17,19 @@ when Q b t u x y e f g =
       | inr n ↦ subst Q (sym (cond-false b x y (e ∙ ne_eqb t u n))) (g n)
     ]
 
--- a choice by any test
-pub either_way : {A : Type 0} (Q : A → Type 0) (b : Bool) (x y : A) → (b ≡ true → Q x) → (b ≡ false → Q y) → Q (cond b x y)
-either_way Q true x y f g = f refl
-either_way Q false x y f g = g refl
-
-pub none_some : {A : Type 0} {a : A} → None ≡ Some a → ⊥
-none_some e = cc
-
-pub some_same : {A : Type 0} {a b : A} → Some a ≡ Some b → a ≡ b
-some_same e = cc
-
-pub true_false : true ≡ false → ⊥
-true_false e = cc
-
 pub known_or : (o : Option ℕ) → (o ≡ None) ⊎ Known o
 known_or None = inl refl
 known_or (Some m) = inr (m, refl)
 
-pub earlier_first : (a b : Option ℕ) → Earlier a b → Known a
-earlier_first a b e = (e.0, e.2)
-
--- the time of a first entry, once it is known, stays
-pub first_known : (o : Option ℕ) (n : ℕ) → Known o → Some (first o n) ≡ o
-first_known None n k = absurd (none_some k.1)
-first_known (Some m) n k = refl
-
 pub first_new : (o : Option ℕ) (n : ℕ) → o ≡ None → Some (first o n) ≡ Some n
-first_new None n e = refl
-first_new (Some m) n e = absurd (none_some (sym e))
+first_new o n e = cc
 
 pub is_some : (o : Option ℕ) (t : ℕ) → is o t ≡ true → o ≡ Some t
-is_some None t e = absurd (true_false (sym e))
-is_some (Some u) t e = ap Some (eqb-true u t e)
+is_some o t e = grind arith
 
 -- one more element of a list
 pub pushed : {A : Type 0} (a : A) (o : Option A) (b : Bool) (as' : List A) → In a (push o b as') → ((o ≡ Some a) × (b ≡ true)) ⊎ In a as'
-pushed a None b xs h = inr h
-pushed a (Some x) true xs (inl h) = inl (ap Some (sym h), refl)
-pushed a (Some x) true xs (inr h) = inr h
-pushed a (Some x) false xs h = inr h
+pushed a o b xs h = grind arith
 
 pub push_keeps : {A : Type 0} (a : A) (o : Option A) (b : Bool) (xs : List A) → In a xs → In a (push o b xs)
 push_keeps a None b xs h = h
@@ -64,45 +37,28 @@ push_keeps a (Some x) true xs h = inr h
 push_keeps a (Some x) false xs h = h
 
 pub push_false : {A : Type 0} (o : Option A) (b : Bool) (xs : List A) → b ≡ false → push o b xs ≡ xs
-push_false None b xs e = refl
-push_false (Some x) b xs e = cond-false b (x ∷ xs) xs e
+push_false o b xs e = grind arith
 
 pub among_in : (x : ℕ) (xs : List ℕ) → In x xs → among x xs ≡ true
 among_in x [] h = absurd h
 among_in x (y ∷ ys) (inl h) = ap (λ (b : Bool). b || among x ys) (eq-eqb x y h)
 among_in x (y ∷ ys) (inr h) = or_right (eqb x y) (among x ys) (among_in x ys h)
-  where
-    or_right : (a b : Bool) → b ≡ true → (a || b) ≡ true
-    or_right true b e = refl
-    or_right false b e = e
 
 -- the time of a first entry, or of one that is new at the time k
 later : (b : Bool) (o : Option ℕ) (k m : ℕ) → ((n : ℕ) → o ≡ Some n → n < k) → cond b (Some (first o k)) o ≡ Some m → m < suc k
-later true None k m up e = let q : k ≡ m = some_same e in omega arith
-later true (Some n) k m up e = let q : n ≡ m = some_same e in let i = up n refl in omega arith
-later false o k m up e = let i = up m e in omega arith
-
-and_false : (a b : Bool) → b ≡ false → (a && b) ≡ false
-and_false true b e = e
-and_false false b e = refl
+later b o k m up e = grind arith
 
 module _ {K : Type 0} where
   -- transactions that are not begun have no entries
   pub whose_below : (j : Trace K) (p t : ℕ) → whose j p ≡ Some t → t < count j
-  whose_below [] p t h = absurd (none_some h)
+  whose_below [] p t h = cc
   whose_below (l ∷ j) p t h = go (λ e. whose_below j p t e) (begins l.act) (eqb l.process p) h
     where
       go : (whose j p ≡ Some t → t < count j) → (a b : Bool) → cond (a && b) (Some (count j)) (whose j p) ≡ Some t → t < cond a (suc (count j)) (count j)
-      go up true true e = let q : count j ≡ t = some_same e in omega arith
-      go up true false e = let q = up e in omega arith
-      go up false b e = up e
+      go up a b e = grind arith
 
   count_grows : (l : Entry K) (j : Trace K) → count j ≤ count (l ∷ j)
-  count_grows l j = go (begins l.act)
-    where
-      go : (a : Bool) → count j ≤ cond a (suc (count j)) (count j)
-      go true = omega arith
-      go false = omega arith
+  count_grows l j = grind arith
 
   belongs_below : (l : Entry K) (j : Trace K) (t : ℕ) → belongs l j t ≡ true → t < count (l ∷ j)
   belongs_below l j t h = whose_below (l ∷ j) l.process t (is_some (whose (l ∷ j) l.process) t h)
@@ -114,13 +70,13 @@ module _ {K : Type 0} where
   pub unborn_at : (f : Act K → Bool) (j : Trace K) (t : ℕ) → count j ≤ t → first_at f j t ≡ None
   unborn_at f [] t h = refl
   unborn_at f (l ∷ j) t h =
-      cond-false (f l.act && belongs l j t) _ _ (and_false (f l.act) (belongs l j t) (not_begun l j t h))
+      cond-false (f l.act && belongs l j t) _ _ (and_right (f l.act) (belongs l j t) (not_begun l j t h))
       ∙ unborn_at f j t (let k = count_grows l j in omega arith)
 
   pub unborn_certified : (j : Trace K) (t : ℕ) → count j ≤ t → certified_at j t ≡ None
   unborn_certified [] t h = refl
   unborn_certified (l ∷ j) t h =
-      cond-false (certifies (desk j l.process) l.act && belongs l j t) _ _ (and_false (certifies (desk j l.process) l.act) (belongs l j t) (not_begun l j t h))
+      cond-false (certifies (desk j l.process) l.act && belongs l j t) _ _ (and_right (certifies (desk j l.process) l.act) (belongs l j t) (not_begun l j t h))
       ∙ unborn_certified j t (let k = count_grows l j in omega arith)
 
   pub unborn_requests : (j : Trace K) (t : ℕ) → count j ≤ t → requests j t ≡ []
@@ -141,11 +97,11 @@ module _ {K : Type 0} where
 
   -- times are those of entries on record
   pub first_before : (f : Act K → Bool) (j : Trace K) (t m : ℕ) → first_at f j t ≡ Some m → m < length j
-  first_before f [] t m h = absurd (none_some h)
+  first_before f [] t m h = cc
   first_before f (l ∷ j) t m h = later (f l.act && belongs l j t) (first_at f j t) (length j) m (λ n e. first_before f j t n e) h
 
   pub certified_before : (j : Trace K) (t m : ℕ) → certified_at j t ≡ Some m → m < length j
-  certified_before [] t m h = absurd (none_some h)
+  certified_before [] t m h = cc
   certified_before (l ∷ j) t m h =
       later (certifies (desk j l.process) l.act && belongs l j t) (certified_at j t) (length j) m (λ n e. certified_before j t n e) h
 
@@ -158,8 +114,7 @@ module _ {K : Type 0} where
       ]
     where
       go : (o : Option ℕ) → hold j o ≡ Some h → h.at < length (l ∷ j)
-      go None e = absurd (none_some e)
-      go (Some x) e = let k = ap (λ (z : Hold). z.at) (some_same e) in omega arith
+      go o e = grind arith
 
   pub reading_before : (j : Trace K) (t : ℕ) (r : Reading K) → In r (readings j t) → r.at < length j
   reading_before [] t r i = absurd i
@@ -170,14 +125,10 @@ module _ {K : Type 0} where
       ]
     where
       at_end : (o : Option ℕ) (f : Option Found) (v : K) → Rattle.law.specs.Ledger.reading_of j o f v ≡ Some r → r.at < length (l ∷ j)
-      at_end None f v e = absurd (none_some e)
-      at_end (Some x) None v e = absurd (none_some e)
-      at_end (Some x) (Some f) v e = let k = ap (λ (z : Reading K). z.at) (some_same e) in omega arith
+      at_end o f v e = grind arith
 
       go : (d : Desk K) (o : Option K) → reading j (whose j l.process) d o ≡ Some r → r.at < length (l ∷ j)
-      go d None e = absurd (none_some e)
-      go free (Some v) e = absurd (none_some e)
-      go (asked q n f) (Some v) e = at_end (of_request q).reads (finds j (whose j l.process) (of_request q).reads f) v e
+      go d o e = grind arith
 
   -- what was taken hold of
   pub hold_taken : (j : Trace K) (t : ℕ) (h : Hold) → In h (holds j t) → In h.object (taken j t)
@@ -189,12 +140,12 @@ module _ {K : Type 0} where
       ]
     where
       go : (o : Option ℕ) (b : Bool) → hold j o ≡ Some h → b ≡ true → In h.object (push o b (taken j t))
-      go None b e q = absurd (none_some e)
-      go (Some x) true e q = inl (ap (λ (z : Hold). z.object) (sym (some_same e)))
-      go (Some x) false e q = absurd (true_false (sym q))
+      go None b e q = cc
+      go (Some x) true e q = inl (ap (λ (z : Hold). z.object) (sym (same_Some _ _ e)))
+      go (Some x) false e q = cc
 
   pub taken_held : (j : Trace K) (t x : ℕ) → among x (taken j t) ≡ true → (h : Hold) × In h (holds j t) × (h.object ≡ x)
-  taken_held [] t x i = absurd (true_false (sym i))
+  taken_held [] t x i = cc
   taken_held (l ∷ j) t x i = go (λ e. taken_held j t x e) (effect_of l.act).takes (belongs l j t) i
     where
       kept : (o : Option Hold) (b : Bool) → (h : Hold) × In h (holds j t) × (h.object ≡ x) → (h : Hold) × In h (push o b (holds j t)) × (h.object ≡ x)
@@ -215,14 +166,10 @@ module _ {K : Type 0} where
   desk_new (l ∷ j) p r n f h z = go (λ e. desk_new j p r n f e z) (eqb l.process p) h
     where
       stepped : (d : Desk K) (a : Option (Answer K)) → desk_on j (whose j p) d a ≡ asked r n f → f ≡ None
-      stepped d (Some a) e = cc
-      stepped free None e = cc
-      stepped (asked q k g) None e = absurd (let i : suc k ≡ n = cc in omega arith)
+      stepped d a e = grind arith
 
       acted : (a : Act K) → desk_after j (whose j p) (desk j p) a ≡ asked r n f → f ≡ None
-      acted (placed q) e = cc
-      acted (made z) e = stepped (desk j p) z.answer e
+      acted a e = grind arith
 
       go : (desk j p ≡ asked r n f → f ≡ None) → (b : Bool) → cond b (desk_after j (whose j p) (desk j p) l.act) (desk j p) ≡ asked r n f → f ≡ None
-      go up true e = acted l.act e
-      go up false e = up e
+      go up b e = grind arith

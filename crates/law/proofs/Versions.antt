@@ -1,6 +1,6 @@
 -- The versions of each object on record, and those of the protocol.
 use Rattle.std.proofs.Common.{◌≡◌, ℕ, zero, suc, ◌<◌, ◌≤◌, Bool, true, false, cond, ◌&&◌, ◌||◌, eqb, ◌⊎◌, List, [], ◌∷◌, Some, None, Option, sym, refl, ap, ◌∙◌, subst, inl, inr, arith}
-use Rattle.std.proofs.lemmas.Bool.{cases_eq, eq-eqb, ne_eqb, cond-true, cond-false}
+use Rattle.std.proofs.lemmas.Bool.{cases_eq, ne_eqb, cond-true, cond-false, true≢false}
 use Rattle.protocol.specs.Table.{put}
 use Rattle.protocol.specs.History.{Access, Mark, writes}
 use Rattle.protocol.specs.History.Access.{ov}
@@ -9,7 +9,7 @@ use Rattle.protocol.proofs.Updates.{put_same, put_other, put_when}
 use Rattle.law.specs.Ledger.{Maker, first, among, latest}
 use Rattle.law.specs.Ledger.Maker.{opening, by}
 use Rattle.law.specs.Law.{Known}
-use Rattle.law.proofs.Traces.{when, true_false, known_or}
+use Rattle.law.proofs.Traces.{when, known_or}
 use Rattle.law.proofs.Times.{noted_was}
 
 -- the maker of a version of the protocol
@@ -18,13 +18,11 @@ name maker zero = opening
 name maker (suc i) = by (maker (suc i))
 
 pub name_made : (maker : ℕ → ℕ) (i : ℕ) → 0 < i → name maker i ≡ by (maker i)
-name_made maker zero h = absurd (omega arith)
-name_made maker (suc i) h = refl
+name_made maker i h = grind arith
 
 -- a later seal changes no name
 pub name_old : (maker : ℕ → ℕ) (n t i : ℕ) → i ≤ n → name (put maker (suc n) t) i ≡ name maker i
-name_old maker n t zero h = refl
-name_old maker n t (suc i) h = ap by (put_other maker (suc n) t (suc i) (λ e. let q = e in omega arith))
+name_old maker n t i h = grind arith
 
 -- the makers ts of the versions of x that lead up to version i
 abbrev pub Chain : (ℕ → ℕ → Mark) → (ℕ → ℕ) → ℕ → ℕ → List ℕ → Type 0
@@ -32,8 +30,7 @@ Chain over maker x i [] = i ≡ 0
 Chain over maker x i (t ∷ ts) = (h : ℕ) × (0 < i) × (over i x ≡ some h) × (maker i ≡ t) × Chain over maker x h ts
 
 pub chain_name : (over : ℕ → ℕ → Mark) (maker : ℕ → ℕ) (x i : ℕ) (ts : List ℕ) → Chain over maker x i ts → latest ts ≡ name maker i
-chain_name over maker x i [] c = ap (name maker) (sym c)
-chain_name over maker x i (t ∷ ts) c = ap by (sym c.3) ∙ sym (name_made maker i c.1)
+chain_name over maker x i ts c = grind arith
 
 chain_old : (over : ℕ → ℕ → Mark) (maker : ℕ → ℕ) (x n t : ℕ) (m : ℕ → Mark) → ((i h : ℕ) → over i x ≡ some h → h < i) → (i : ℕ) (ts : List ℕ) → i ≤ n
     → Chain over maker x i ts → Chain (put over (suc n) m) (put maker (suc n) t) x i ts
@@ -60,8 +57,7 @@ pub record Versions (makers taken : ℕ → List ℕ) (stored_at : ℕ → ℕ �
   pub storers : (t x : ℕ) → Known (stored_at t x) → sealed t ≡ true
 
 eqb_turn : (x y : ℕ) → eqb x y ≡ eqb y x
-eqb_turn x y =
-    elim (cases_eq x y) [ inl e ↦ eq-eqb x y e ∙ sym (eq-eqb y x (sym e)) | inr e ↦ ne_eqb x y e ∙ sym (ne_eqb y x (λ q. e (sym q))) ]
+eqb_turn x y = grind arith
 
 module _ (makers taken : ℕ → List ℕ) (stored_at : ℕ → ℕ → Option ℕ) (sealed : ℕ → Bool) (over : ℕ → ℕ → Mark) (maker latest stored : ℕ → ℕ) (log : ℕ → List Access)
     (c : Versions makers taken stored_at sealed over maker latest stored log) (t : ℕ) where
@@ -83,9 +79,7 @@ module _ (makers taken : ℕ → List ℕ) (stored_at : ℕ → ℕ → Option �
   versions_rewrite x i h = versions_log (ov x i) (λ y. again y (cases_eq x y))
     where
       again : (y : ℕ) → (x ≡ y) ⊎ (x ≡ y → ⊥) → (eqb x y || writes (log t) y) ≡ writes (log t) y
-      again y (inl e) =
-          ap (λ (b : Bool). b || writes (log t) y) (eq-eqb x y e) ∙ sym (ap (writes (log t)) (sym e) ∙ h)
-      again y (inr e) = ap (λ (b : Bool). b || writes (log t) y) (ne_eqb x y e)
+      again y d = grind arith
 
   module _ (b : ℕ → Bool) (own : (u : ℕ) → b u ≡ eqb t u) where
     -- t becomes the holder of x
@@ -105,13 +99,8 @@ module _ (makers taken : ℕ → List ℕ) (stored_at : ℕ → ℕ → Option �
         both : (y u : ℕ) → among y (taken u) ≡ writes (log t) y → (eqb y x || among y (taken u)) ≡ (eqb x y || writes (log t) y)
         both y u e = ap (λ (k : Bool). k || among y (taken u)) (eqb_turn y x) ∙ ap (λ (k : Bool). eqb x y || k) e
 
-        or_right : (k l : Bool) → l ≡ true → (k || l) ≡ true
-        or_right true l e = refl
-        or_right false l e = e
-
         more : (y u : ℕ) → among y (taken u) ≡ true → among y (cond (b u) (x ∷ taken u) (taken u)) ≡ true
-        more y u e =
-            when (λ (l : List ℕ). among y l ≡ true) (b u) t u (x ∷ taken u) (taken u) (own u) (λ n. or_right (eqb y x) (among y (taken u)) e) (λ n. e)
+        more y u e = grind arith
 
     -- t stores x, once it is sealed
     pub versions_store : (x k : ℕ) → sealed t ≡ true
@@ -188,11 +177,7 @@ module _ (makers taken : ℕ → List ℕ) (stored_at : ℕ → ℕ → Option �
             omega arith,
             subst (Due taken stored_at x) (sym (put_same maker (suc n) t (suc n) refl)) (
               c.wrote t x ∙ e,
-              elim (known_or (stored_at t x)) [ inl d ↦ d | inr d ↦ absurd (true_false (sym (c.storers t x d) ∙ open')) ],
+              elim (known_or (stored_at t x)) [ inl d ↦ d | inr d ↦ absurd (true≢false (sym (c.storers t x d) ∙ open')) ],
             ),
           )
-      coming x false e =
-          elim (c.due x) [
-            | inl d ↦ inl d
-            | inr d ↦ inr (d.0, subst (Due taken stored_at x) (sym (put_other maker (suc n) t (latest x) (λ q. let k = newest x in let i = q in omega arith))) d.1)
-          ]
+      coming x false e = grind arith

@@ -1,12 +1,13 @@
 -- Each step keeps on record who holds what, and gives aborts their reasons.
-use Rattle.std.proofs.Common.{◌≡◌, ℕ, Bool, true, false, cond, ◌&&◌, ◌||◌, eqb, ◌⊎◌, List, [], ◌∷◌, ◌++◌, Some, None, Option, sym, refl, ap, ◌∙◌, subst, inl, inr, arith}
-use Rattle.std.proofs.lemmas.Bool.{eq-eqb, ne_eqb, cond-true, cond-false}
+use Rattle.std.proofs.Common.{◌≡◌, ℕ, Bool, true, cond, ◌&&◌, eqb, ◌⊎◌, List, [], ◌∷◌, ◌++◌, Some, None, Option, sym, refl, ap, ◌∙◌, subst, inl, inr, arith}
+use Rattle.std.proofs.lemmas.Bool.{ne_eqb, cond-false, or_right, true≢false}
+use Rattle.std.proofs.lemmas.Option.{same_Some}
 use Rattle.tables.specs.declared.reply.Conflict.{Conflict}
 use Rattle.tables.specs.declared.reply.Conflict.TheVariants as conflict
 use Rattle.tables.specs.declared.reply.Request.{Request}
 use Rattle.tables.specs.declared.reply.Stepped.{Stepped}
 use Rattle.protocol.specs.Table.{put}
-use Rattle.protocol.specs.Protocol.{State, Phase, Event, Why, Lawful, LawfulFrom, state, states, fresh, next}
+use Rattle.protocol.specs.Protocol.{State, Phase, Event, Why, Lawful, LawfulFrom, state, states, fresh}
 use Rattle.protocol.specs.Protocol.Held.{by}
 use Rattle.protocol.specs.Protocol.Phase.{out, starting, running, certifying, aborting, sealing}
 use Rattle.protocol.specs.Protocol.Event.{certify, fail}
@@ -49,10 +50,10 @@ use Rattle.refinement.proofs.Acts.Block.{
 }
 use Rattle.law.specs.Trace.{Trace, entry}
 use Rattle.law.specs.Trace.Act.{made}
-use Rattle.law.specs.Ledger.{Found, is, among, whose, stored_at, freed_at, ended_at, taken, desk, of_answer}
+use Rattle.law.specs.Ledger.{is, among, whose, stored_at, freed_at, ended_at, taken, of_answer}
 use Rattle.law.specs.Ledger.Desk.{asked}
 use Rattle.law.specs.Law.{Known, Disturbed, Justified}
-use Rattle.law.proofs.Traces.{when, none_some, some_same, true_false, known_or}
+use Rattle.law.proofs.Traces.{when, known_or}
 use Rattle.law.proofs.Others.{first_other}
 use Rattle.law.proofs.Matches.{leaves, Base, not_mine}
 use Rattle.law.proofs.Disturbance.{Holding, holding_turn, holding_write, holding_release, Watch, disturbed_more, disturbed_now, placed_known}
@@ -73,22 +74,16 @@ module _ {K : Type 0} (P : ℕ) (start : ℕ → K) (b : ℕ → ℕ) (j : Trace
         cond_among,
         elim (known_or (stored_at j ((history es).current p) x)) [
           | inl e ↦ e
-          | inr e ↦ absurd (true_false (sym (c.core.versions.storers ((history es).current p) x e) ∙ (all P start b es lawful).linked.opens p (inr (inl run))))
+          | inr e ↦ absurd (true≢false (sym (c.core.versions.storers ((history es).current p) x e) ∙ (all P start b es lawful).linked.opens p (inr (inl run))))
         ],
         w.holding.unfreed p in' (λ e. differ running aborting tt (sym run ∙ e)) x,
       )
     where
-      or_right : (k l : Bool) → l ≡ true → (k || l) ≡ true
-      or_right true l e = refl
-      or_right false l e = e
-
       more : (u y : ℕ) → among y (taken j u) ≡ true → among y (cond (is (whose j p) u) (x ∷ taken j u) (taken j u)) ≡ true
       more u y e = when (λ (l : List ℕ). among y l ≡ true) (is (whose j p) u) ((history es).current p) u _ _ (own_is u) (λ n. or_right (eqb y x) (among y (taken j u)) e) (λ n. e)
 
       cond_among : among x (cond (is (whose j p) ((history es).current p)) (x ∷ taken j ((history es).current p)) (taken j ((history es).current p))) ≡ true
-      cond_among =
-          ap (among x) (cond-true (is (whose j p) ((history es).current p)) _ _ (own_is ((history es).current p) ∙ eq-eqb ((history es).current p) ((history es).current p) refl))
-          ∙ ap (λ (k : Bool). k || among x (taken j ((history es).current p))) (eq-eqb x x refl)
+      cond_among = grind arith
 
   elsewhere : (x u y : ℕ) (o o' : Option ℕ) → (x ≡ y → ⊥) → cond (eqb x y && is (whose j p) u) o' o ≡ o
   elsewhere x u y o o' n = cond-false (eqb x y && is (whose j p) u) o' o (ap (λ (k : Bool). k && is (whose j p) u) (ne_eqb x y n))
@@ -237,8 +232,8 @@ module _ {K : Type 0} (P : ℕ) (start : ℕ → K) (b : ℕ → ℕ) (j : Trace
   Blame o k = (o ≡ Some k) ⊎ (Live (state start b es).phase p × Why (state start b es) p (cause_of k))
 
   never : {k : Conflict} {A : Type 0} → (None ≡ Some k) ⊎ (None ≡ Some k) → A
-  never (inl e) = absurd (none_some e)
-  never (inr e) = absurd (none_some e)
+  never (inl e) = cc
+  never (inr e) = cc
 
   pub blames : {r : Request K} {n : ℕ} {o o' : Option Conflict} {z : Stepped K} {fs : List (Event K)} → Block (state start b es) p r n o z fs o' → LawfulFrom P (state start b es) fs → (k : Conflict)
       → (o' ≡ Some k) ⊎ ((of_answer z.answer).conflict ≡ Some k) → Blame o k
@@ -262,15 +257,15 @@ module _ {K : Type 0} (P : ℕ) (start : ℕ → K) (b : ℕ → ℕ) (j : Trace
   blames (seals t i n) m k e = never e
   blames (stores x v t n) m k e = never e
   blames (stores_last x v t n) m k e = never e
-  blames (stops r i n) m k (inl e) = inr (m.1.0, subst (λ (h : Conflict). Why (state start b es) p (cause_of h)) (some_same e) m.1.1)
-  blames (stops r i n) m k (inr e) = absurd (none_some e)
-  blames (aborts r i n) m k (inl e) = absurd (none_some e)
-  blames (aborts r i n) m k (inr e) = inr (m.0.1.0, subst (λ (h : Conflict). Why (state start b es) p (cause_of h)) (some_same e) m.0.1.1)
+  blames (stops r i n) m k (inl e) = inr (m.1.0, subst (λ (h : Conflict). Why (state start b es) p (cause_of h)) (same_Some _ _ e) m.1.1)
+  blames (stops r i n) m k (inr e) = cc
+  blames (aborts r i n) m k (inl e) = cc
+  blames (aborts r i n) m k (inr e) = inr (m.0.1.0, subst (λ (h : Conflict). Why (state start b es) p (cause_of h)) (same_Some _ _ e) m.0.1.1)
   blames (frees r o x v n) m k (inl e) = inl e
-  blames (frees r o x v n) m k (inr e) = absurd (none_some e)
-  blames (aborts_freed r i x v n) m k (inl e) = absurd (none_some e)
+  blames (frees r o x v n) m k (inr e) = cc
+  blames (aborts_freed r i x v n) m k (inl e) = cc
   blames (aborts_freed r i x v n) m k (inr e) = inl e
-  blames (aborts_empty r i n) m k (inl e) = absurd (none_some e)
+  blames (aborts_empty r i n) m k (inl e) = cc
   blames (aborts_empty r i n) m k (inr e) = inl e
   blames (withdraws_freed x v n) m k e = never e
   blames (withdraws_empty n) m k e = never e

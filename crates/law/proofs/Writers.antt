@@ -1,6 +1,6 @@
 -- A sealed transaction that has written makes versions.
 use Rattle.std.proofs.Common.{◌≡◌, ℕ, suc, ◌<◌, ◌≤◌, true, List, [], ◌∷◌, sym, refl, ap, ◌∙◌, inl, inr, arith}
-use Rattle.std.proofs.lemmas.Bool.{cases_eq}
+use Rattle.std.proofs.lemmas.Bool.{cases_eq, true≢false}
 use Rattle.protocol.specs.Table.{put}
 use Rattle.protocol.specs.Protocol.{Event, Lawful, state}
 use Rattle.protocol.specs.Protocol.Phase.{running}
@@ -10,7 +10,6 @@ use Rattle.protocol.specs.History.Access.{rd, ov}
 use Rattle.protocol.specs.Commits.{commits_of}
 use Rattle.protocol.proofs.Updates.{put_same, put_other}
 use Rattle.protocol.proofs.Laws.{all}
-use Rattle.law.proofs.Traces.{true_false}
 
 module _ {K : Type 0} (P : ℕ) (start : ℕ → K) (b : ℕ → ℕ) where
   -- the versions of a transaction go by one number
@@ -21,10 +20,10 @@ module _ {K : Type 0} (P : ℕ) (start : ℕ → K) (b : ℕ → ℕ) where
   other : (es : List (Event K)) → Lawful P start b es → (p t x : ℕ) (a : Access) → (state start b es).phase p ≡ running → (commits_of es).sealed t ≡ true
       → writes (put (history es).log ((history es).current p) (a ∷ (history es).log ((history es).current p)) t) x ≡ true → writes ((history es).log t) x ≡ true
   other es m p t x a run h w =
-      ap (λ (l : List Access). writes l x) (sym (put_other (history es).log ((history es).current p) (a ∷ (history es).log ((history es).current p)) t (λ e. true_false (sym h ∙ ap (commits_of es).sealed (sym e) ∙ (all P start b es m).linked.opens p (inr (inl run)))))) ∙ w
+      ap (λ (l : List Access). writes l x) (sym (put_other (history es).log ((history es).current p) (a ∷ (history es).log ((history es).current p)) t (λ e. true≢false (sym h ∙ ap (commits_of es).sealed (sym e) ∙ (all P start b es m).linked.opens p (inr (inl run)))))) ∙ w
 
   pub writers : (es : List (Event K)) → Lawful P start b es → (t x : ℕ) → (commits_of es).sealed t ≡ true → writes ((history es).log t) x ≡ true → MakerOf es t
-  writers [] m t x h w = absurd (true_false (sym h))
+  writers [] m t x h w = cc
   writers (begin p ∷ es) m t x h w = writers es m.0 t x h w
   writers (ready p c ∷ es) m t x h w = writers es m.0 t x h w
   writers (look p y v ∷ es) m t x h w = writers es m.0 t x h w

@@ -1,5 +1,5 @@
 -- What a step of a request is, as events, by what it replies: the ways that a request can take, one constructor each.
-use Rattle.std.proofs.Common.{◌≡◌, ℕ, ◌+◌, ◌<◌, true, List, [], ◌∷◌, ◌++◌, Some, None, Option}
+use Rattle.std.proofs.Common.{◌≡◌, ℕ, ◌+◌, ◌<◌, true, List, [], ◌∷◌, ◌++◌, Some, None, Option, arith}
 use Rattle.tables.specs.Tables.{Tables, process_at, hand_at}
 use Rattle.tables.specs.declared.process.Access.TheVariants as access
 use Rattle.tables.specs.declared.process.Ending.{Ending}
@@ -120,14 +120,7 @@ HasStepped (Freeing next e) n = Unit {0}
 
 -- it holds of a request that has made a step, in whatever phase
 pub has_stepped : (f : Phase) (n : ℕ) → 0 < n → HasStepped f n
-has_stepped Idle n l = tt
-has_stepped (Beginning next least) n l = tt
-has_stepped (Reading x) n l = tt
-has_stepped (Writing x) n l = tt
-has_stepped (Extending x to next a) n l = l
-has_stepped (Certifying next) n l = tt
-has_stepped (Storing next) n l = tt
-has_stepped (Freeing next x) n l = tt
+has_stepped f n l = grind arith
 
 -- how the record of a process stands after a step of its request: the request goes on, or it is answered
 abbrev pub Goes : {K : Type 0} → Request K → ℕ → Option Conflict → Option (Answer K) → Process → K → Type 0

@@ -42,24 +42,7 @@ module _ {K : Type 0} where
   Quiet p (close q) = q ≡ p
 
   quiet_acts : (p : ℕ) (ev : Event K) → Quiet p ev → Acts ev p
-  quiet_acts p (begin q) a = a
-  quiet_acts p (ready q c) a = a
-  quiet_acts p (look q x v) a = a
-  quiet_acts p (check q x) a = a
-  quiet_acts p (extend q) a = a
-  quiet_acts p (answer q x t v) a = a
-  quiet_acts p (own q x v) a = a
-  quiet_acts p (write q x v) a = absurd a
-  quiet_acts p (certify q) a = a
-  quiet_acts p (pass q x) a = a
-  quiet_acts p (seal q t b) a = absurd a
-  quiet_acts p (finish q) a = a
-  quiet_acts p (move b) a = absurd a
-  quiet_acts p (store q x v t) a = absurd a
-  quiet_acts p (fail q c) a = a
-  quiet_acts p (free q x v) a = absurd a
-  quiet_acts p (commit q t) a = a
-  quiet_acts p (close q) a = a
+  quiet_acts p ev a = grind arith
 
   -- the parts that belong to no process
   pub record Shared (s z : State K) : Type 0 where
@@ -72,24 +55,7 @@ module _ {K : Type 0} where
   same s = record { content = refl; stamp = refl; held = refl; bank = refl }
 
   quiet_shared : (s : State K) (p : ℕ) (ev : Event K) → Quiet p ev → Shared s (next s ev)
-  quiet_shared s p (begin q) a = record { content = refl; stamp = refl; held = refl; bank = refl }
-  quiet_shared s p (ready q c) a = record { content = refl; stamp = refl; held = refl; bank = refl }
-  quiet_shared s p (look q x v) a = record { content = refl; stamp = refl; held = refl; bank = refl }
-  quiet_shared s p (check q x) a = record { content = refl; stamp = refl; held = refl; bank = refl }
-  quiet_shared s p (extend q) a = record { content = refl; stamp = refl; held = refl; bank = refl }
-  quiet_shared s p (answer q x t v) a = record { content = refl; stamp = refl; held = refl; bank = refl }
-  quiet_shared s p (own q x v) a = same s
-  quiet_shared s p (write q x v) a = absurd a
-  quiet_shared s p (certify q) a = record { content = refl; stamp = refl; held = refl; bank = refl }
-  quiet_shared s p (pass q x) a = record { content = refl; stamp = refl; held = refl; bank = refl }
-  quiet_shared s p (seal q t b) a = absurd a
-  quiet_shared s p (finish q) a = record { content = refl; stamp = refl; held = refl; bank = refl }
-  quiet_shared s p (move b) a = absurd a
-  quiet_shared s p (store q x v t) a = absurd a
-  quiet_shared s p (fail q c) a = record { content = refl; stamp = refl; held = refl; bank = refl }
-  quiet_shared s p (free q x v) a = absurd a
-  quiet_shared s p (commit q t) a = record { content = refl; stamp = refl; held = refl; bank = refl }
-  quiet_shared s p (close q) a = record { content = refl; stamp = refl; held = refl; bank = refl }
+  quiet_shared s p ev a = grind arith
 
   -- blocks of such events, the newest first
   abbrev pub AllQuiet : ℕ → List (Event K) → Type 0

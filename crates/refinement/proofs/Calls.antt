@@ -3,7 +3,7 @@ use Rattle.std.proofs.Common.{◌≡◌, ℕ, ◌<◌, ◌≤◌, Bool, true, fa
 use Rattle.std.proofs.lemmas.List.{get_or-set_same}
 use Rattle.tables.specs.Tables.{Tables, process_at, hand_at, with_process, with_hand, idle_process}
 use Rattle.tables.specs.declared.process.Phase.{Phase}
-use Rattle.tables.specs.declared.process.Phase.TheVariants.{Idle, Beginning, Reading, Writing, Extending, Certifying, Storing, Freeing}
+use Rattle.tables.specs.declared.process.Phase.TheVariants.{Idle}
 use Rattle.tables.specs.declared.process.Process.{Process}
 use Rattle.tables.specs.declared.refusal.Refusal.{Refusal}
 use Rattle.tables.specs.declared.refusal.Refusal.TheVariants as refusal
@@ -47,21 +47,7 @@ module _ {K B : Type 0} (e : K) (number : B → ℕ → ℕ) (moved : B → ℕ 
 
   -- a step that is refused changes nothing
   pub step_refused : (t : Tables K) (b : B) (p : ℕ) (q : Refusal) → (step_call e (number b) t p).reply ≡ Err q → ((step_call e (number b) t p).tables ≡ t) × (step_bank e number moved t b p ≡ b)
-  step_refused t b p q = go (refused e t p)
-    where
-      in_phase : (f : Phase) → (phase_step e (number b) t p f).reply ≡ Err q → ((phase_step e (number b) t p f).tables ≡ t) × (phase_bank number moved t b p f ≡ b)
-      in_phase Idle h = (refl, refl)
-      in_phase (Beginning next least) h = cc
-      in_phase (Reading x) h = cc
-      in_phase (Writing x) h = cc
-      in_phase (Extending x to next a) h = cc
-      in_phase (Certifying next) h = cc
-      in_phase (Storing next) h = cc
-      in_phase (Freeing next x) h = cc
-
-      go : (o : Option Refusal) → (step_unless o e (number b) t p).reply ≡ Err q → ((step_unless o e (number b) t p).tables ≡ t) × (bank_unless o number moved t b p ≡ b)
-      go (Some r) h = (refl, refl)
-      go None h = in_phase (process_at t p).phase h
+  step_refused t b p q = grind arith
 
 -- the events of a placing
 abbrev pub placing_events : {K : Type 0} → ℕ → Request K → List (Event K)
@@ -105,14 +91,7 @@ placement e number t s p q l idle d f asks shown =
 
 -- a phase that is idle
 idle_of : (f : Phase) → is_idle f ≡ true → f ≡ Idle
-idle_of Idle h = refl
-idle_of (Beginning n least) h = cc
-idle_of (Reading x) h = cc
-idle_of (Writing x) h = cc
-idle_of (Extending x to n a) h = cc
-idle_of (Certifying n) h = cc
-idle_of (Storing n) h = cc
-idle_of (Freeing n x) h = cc
+idle_of f h = grind arith
 
 module _ {K : Type 0} (e : K) (number : ℕ → ℕ) (t : Tables K) (p : ℕ) where
   -- a placing, by its request
@@ -122,8 +101,7 @@ module _ {K : Type 0} (e : K) (number : ℕ → ℕ) (t : Tables K) (p : ℕ) wh
       placement e number t s p ask.Begin l idle d (frame_none t p) refl (begin_shown e number t s p g v l (not_live (process_at t p).live d))
     where
       not_live : (k : Bool) → not k ≡ true → k ≡ false
-      not_live false n = refl
-      not_live true n = cc
+      not_live k n = grind arith
   placed_as s (ask.Read x) g v l idle d =
       placement e number t s p (ask.Read x) l idle d (frame_none t p) refl
       (placed_shown e number t s p g v l t (ask.Read x) (frame_none t p) refl refl refl d idle (λ n. cc))
@@ -144,13 +122,10 @@ module _ {K : Type 0} (e : K) (number : ℕ → ℕ) (t : Tables K) (p : ℕ) wh
   place_advances s q g v = go (place_no e t p q) refl
     where
       both : (x y : Option Refusal) → first_no x y ≡ None → (x ≡ None) × (y ≡ None)
-      both None y h = (refl, h)
-      both (Some x) y h = cc
+      both x y h = grind arith
 
       asked : (x y : Bool) (o : Option Refusal) → cond x (cond y o (Some refusal.Transaction)) (Some refusal.InHand) ≡ None → (x ≡ true) × (y ≡ true)
-      asked true true o h = (refl, refl)
-      asked true false o h = cc
-      asked false y o h = cc
+      asked x y o h = grind arith
 
       go : (o : Option Refusal) → place_no e t p q ≡ o → (place_unless o t p q).reply ≡ Ok tt → Placement e (length t.processes) number t (place_unless o t p q).tables s p q
       go (Some r) n h = cc
@@ -161,8 +136,4 @@ module _ {K : Type 0} (e : K) (number : ℕ → ℕ) (t : Tables K) (p : ℕ) wh
 
 -- a placing that is refused changes nothing
 pub place_refused : {K : Type 0} (e : K) (t : Tables K) (p : ℕ) (q : Request K) (r : Refusal) → (place_call e t p q).reply ≡ Err r → (place_call e t p q).tables ≡ t
-place_refused e t p q r = go (place_no e t p q)
-  where
-    go : (o : Option Refusal) → (place_unless o t p q).reply ≡ Err r → (place_unless o t p q).tables ≡ t
-    go (Some x) h = refl
-    go None h = cc
+place_refused e t p q r = grind arith

@@ -1,7 +1,6 @@
 -- Each part of a step keeps a memory good.
 use Rattle.std.proofs.Common.{◌≡◌, ℕ, ◌+◌, ◌-◌, ◌*◌, ◌^◌, ◌<◌, ◌≤◌, true, false, cond, ◌&&◌, eqb, ltb, leb, List, [], ◌∷◌, ◌++◌, length, get_or, set, is_some, Some, None, Option, sym, refl, ap, ◌∙◌, inl, inr, arith}
 use Rattle.std.proofs.lemmas.Bool.{cases_lt, and_parts, and_from, leb-true, cond_both, lt-ltb}
-use Rattle.std.proofs.lemmas.Bool.Decides.{nat_tests}
 use Rattle.std.proofs.lemmas.List.{get_or_past}
 use Rattle.tables.specs.Lookup.{pair, value_of, place_of}
 use Rattle.tables.specs.Tables.{Tables, process_at, hand_at, read_set, write_set, with_process, with_object, with_read, with_write, with_hand, blank_object, sizes_ok}
@@ -31,8 +30,7 @@ pub record Sizes {K : Type 0} (t : Tables K) : Type 0 where
   pub hands : length t.hands ≡ length t.processes
 
 pub sizes_facts : {K : Type 0} (t : Tables K) → sizes_ok t ≡ true → Sizes t
-sizes_facts t h =
-    record { few = grind (arith, nat_tests); reads = grind (arith, nat_tests); writes = grind (arith, nat_tests); hands = grind (arith, nat_tests) }
+sizes_facts t h = grind arith
 
 -- the pairs of a sound record name objects
 pub sound_of : {K : Type 0} (e : K) (t : Tables K) (p : ℕ) → Good e t → p < length t.processes → Sound e t p
@@ -231,7 +229,7 @@ module _ {K : Type 0} (e : K) (t : Tables K) (p : ℕ) (g : Good e t) (l : p < l
       (λ q. advances (Freeing 0 (Abort c)) (inr (positive (process_at t p).writes q), named, freeing (process_at t p).writes (process_at t p).steps q few))
     where
       positive : (n : ℕ) → eqb n 0 ≡ false → 0 < n
-      positive n q = grind (arith, nat_tests)
+      positive n q = grind arith
 
       freeing : (n s : ℕ) → eqb n 0 ≡ false → s + 1 + n ≤ 49 → s + 1 + cond (eqb n 0) 1 (n - 0) ≤ 49
       freeing n s q h = simp q (omega arith)

@@ -20,7 +20,7 @@ use Rattle.refinement.proofs.View.{SeenAs, PassedTo, View, open_to, same_to}
 -- the value of the object that pair i names, where no object is named twice
 among_at : (ns : List ℕ) (i d : ℕ) → i < length ns → among (get_or ns i d) ns ≡ true
 among_at [] i d h = absurd (omega arith)
-among_at (n ∷ ns) zero d h = grind (arith, nat_tests)
+among_at (n ∷ ns) zero d h = grind arith
 among_at (n ∷ ns) (suc i) d h = let a = among_at ns i d (omega arith) in grind (arith, nat_tests)
 
 value_at : {V : Type 0} (rs : List (Slot V)) (i : ℕ) (d : Slot V) → apart (names rs) ≡ true → i < length rs → value_of rs (get_or rs i d).object ≡ Some (get_or rs i d).value

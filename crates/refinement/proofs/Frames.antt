@@ -147,22 +147,11 @@ frame_both t u v p f g =
 
 -- facts over equal parts
 pub own_at : {K : Type 0} (P P' N N' : ℕ) (r r' : Process) (rs rs' : List (Slot ℕ)) (ws ws' : List (Slot K)) → P ≡ P' → N ≡ N' → r ≡ r' → rs ≡ rs' → ws ≡ ws' → OwnOf P N r rs ws → OwnOf P' N' r' rs' ws'
-own_at P P' N N' r r' rs rs' ws ws' a b c d f o =
-    let F : ℕ → Type 0 = λ z. OwnOf z N r rs ws in
-    let G : ℕ → Type 0 = λ z. OwnOf P' z r rs ws in
-    let H : Process → Type 0 = λ z. OwnOf P' N' z rs ws in
-    let I : List (Slot ℕ) → Type 0 = λ z. OwnOf P' N' r' z ws in
-    let J : List (Slot _) → Type 0 = λ z. OwnOf P' N' r' rs' z in
-    subst J f (subst I d (subst H c (subst G b (subst F a o))))
+own_at P P' N N' r r' rs rs' ws ws' a b c d f o = grind arith
 
 -- another process keeps what soundness says of it
 pub other_own : {K : Type 0} (t u : Tables K) (p q : ℕ) → Frame t u p → (q ≡ p → ⊥) → Own t q → Own u q
-other_own t u p q f d o =
-    let e = f.others q d in
-    own_at _ _ _ _ _ _ _ _ _ _ (sym f.processes) (sym f.objects) (sym e)
-    (sym (ap (λ (r : Process). window u.reads (q * 32) r.reads) e ∙ f.other_reads q (process_at t q).reads d o.read_count))
-    (sym (ap (λ (r : Process). window u.writes (q * 16) r.writes) e ∙ f.other_writes q (process_at t q).writes d o.write_count))
-    o
+other_own t u p q f d o = grind arith
 
 -- the record of p is r: its own facts over the windows that r's counts give
 pub own_with : {K : Type 0} (t : Tables K) (p : ℕ) (r : Process) → p < length t.processes → OwnOf (length t.processes) (length t.objects) r (window t.reads (p * 32) r.reads) (window t.writes (p * 16) r.writes) → Own (with_process t p r) p
@@ -178,9 +167,7 @@ abbrev sized_by : ℕ → ℕ → ℕ → ℕ → ℕ → Bool
 sized_by o p r w h = numbers_ok o p && eqb r (p * 32) && eqb w (p * 16) && eqb h p
 
 pub sizes_kept : {K : Type 0} (t u : Tables K) (p : ℕ) → Frame t u p → sizes_ok t ≡ true → sizes_ok u ≡ true
-sizes_kept t u p f h =
-    let e : sizes_ok u ≡ sizes_ok t = λ i. sized_by (f.objects i) (f.processes i) (f.reads i) (f.writes i) (f.hands i) in
-    e ∙ h
+sizes_kept t u p f h = cc
 
 pub objects_kept : {K : Type 0} (e : K) (os : List (Object K)) (n x : ℕ) (o : Object K) → ObjectsOk e os n → object_ok o n ≡ true → ObjectsOk e (set os x o) n
 objects_kept e os n x o ok h y l =

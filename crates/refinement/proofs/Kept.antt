@@ -1,11 +1,11 @@
 -- Every call keeps a memory good, a fresh memory is good, and no call on a good memory is refused for its tables.
-use Rattle.std.proofs.Common.{◌≡◌, ℕ, ◌+◌, ◌-◌, ◌*◌, ◌^◌, ◌<◌, ◌≤◌, Bool, true, false, cond, ◌&&◌, eqb, ltb, List, [], length, Some, None, Option, sym, refl, ap, ◌∙◌, subst, inl, inr, arith}
-use Rattle.std.proofs.lemmas.Bool.{cases_lt, cases_Bool, and_from, eqb-true, eqb-false, lt-ltb, le-ltb, eq-eqb}
+use Rattle.std.proofs.Common.{◌≡◌, ℕ, ◌+◌, ◌-◌, ◌*◌, ◌^◌, ◌<◌, ◌≤◌, Bool, true, cond, ◌&&◌, eqb, List, [], length, Some, None, Option, sym, refl, ap, ◌∙◌, subst, inl, inr, arith}
+use Rattle.std.proofs.lemmas.Bool.{cases_Bool, and_from, eqb-true, eqb-false, lt-ltb, eq-eqb}
 use Rattle.tables.specs.Lookup.{pair}
 use Rattle.tables.specs.Tables.{Tables, process_at, read_set, write_set, with_process, with_hand, blank_object, sizes_ok}
 use Rattle.tables.specs.declared.memory.Object.{Object}
 use Rattle.tables.specs.declared.process.Process.{Process}
-use Rattle.engine.specs.Sound.{object_ok, sound_ok}
+use Rattle.engine.specs.Sound.{object_ok}
 use Rattle.refinement.proofs.Windows.{window}
 use Rattle.refinement.proofs.Own.{Good, sound_from}
 use Rattle.refinement.proofs.Changes.{sets_stay, hands_good}
@@ -16,7 +16,7 @@ use Rattle.tables.specs.declared.refusal.Refusal.TheVariants as refusal
 use Rattle.tables.specs.declared.reply.Request.{Request}
 use Rattle.tables.specs.declared.reply.Request.TheVariants as ask
 use Rattle.engine.specs.Step.{step_unless, step_call}
-use Rattle.engine.specs.Place.{is_idle, due, access_no, object_no, request_no, placed, handed, first_no, place_no, place_unless, place_call}
+use Rattle.engine.specs.Place.{access_no, object_no, request_no, placed, handed, first_no, place_no, place_unless, place_call}
 use Rattle.engine.specs.Sound.{refused, readable, writable}
 use Rattle.std.proofs.lemmas.List.{get_or-replicate, get_or-map, length-map, length-replicate}
 use Rattle.tables.specs.Fresh.{unheld, fresh_tables}
@@ -25,16 +25,7 @@ use Rattle.tables.specs.Tables.{numbers_ok, idle_process}
 -- a call that the first questions do not refuse names a process
 pub within : {K : Type 0} (e : K) (t : Tables K) (p : ℕ) → refused e t p ≡ None → p < length t.processes
 unfolding refused
-within e t p h =
-    elim (cases_lt p (length t.processes)) [
-      | inl l ↦ l
-      | inr l ↦ absurd (outside (sizes_ok t) (sound_ok e t p) (ltb p (length t.processes)) (le-ltb p (length t.processes) l) h)
-    ]
-  where
-    outside : (a b c : Bool) → c ≡ false → cond a (cond c (cond b None (Some refusal.Record)) (Some refusal.Process)) (Some refusal.Sizes) ≡ None → ⊥
-    outside true b false q h = cc
-    outside true b true q h = cc
-    outside false b c q h = cc
+within e t p h = grind arith
 
 -- on a good memory the first questions refuse only a process that is not there
 pub unrefused : {K : Type 0} (e : K) (t : Tables K) (p : ℕ) → Good e t → p < length t.processes → refused e t p ≡ None
@@ -47,10 +38,7 @@ unrefused e t p g l =
 
 pub absent : {K : Type 0} (e : K) (t : Tables K) (p : ℕ) → Good e t → length t.processes ≤ p → refused e t p ≡ Some refusal.Process
 unfolding refused
-absent e t p g l =
-    let a = g.sizes in
-    let b = le-ltb p (length t.processes) l in
-    simp (a, b)
+absent e t p g l = grind arith
 
 step_at : {K : Type 0} (e : K) (number : ℕ → ℕ) (t : Tables K) (p : ℕ) (r : Option Refusal) → Good e t → ((q : ℕ) → number q ≤ 2 ^ 40) → refused e t p ≡ r → Good e (step_unless r e number t p).tables
 step_at e number t p (Some q) g ranged h = g
@@ -61,28 +49,10 @@ step_good e number t p g ranged = step_at e number t p (refused e t p) g ranged 
 
 -- what a placing that is not refused tells
 access_yes : {K : Type 0} (t : Tables K) (x : ℕ) (fits : Bool) → access_no t x fits ≡ None → (x < length t.objects) × (fits ≡ true)
-access_yes t x fits h =
-    elim (cases_lt x (length t.objects)) [
-      | inl l ↦ (l, yes_fits fits (ltb x (length t.objects)) (lt-ltb x (length t.objects) l) h)
-      | inr l ↦ absurd (no_object fits (ltb x (length t.objects)) (le-ltb x (length t.objects) l) h)
-    ]
-  where
-    yes_fits : (b c : Bool) → c ≡ true → cond c (cond b None (Some refusal.Room)) (Some refusal.Object) ≡ None → b ≡ true
-    yes_fits true c q h = refl
-    yes_fits false true q h = cc
-    yes_fits false false q h = cc
-
-    no_object : (b c : Bool) → c ≡ false → cond c (cond b None (Some refusal.Room)) (Some refusal.Object) ≡ None → ⊥
-    no_object b true q h = cc
-    no_object b false q h = cc
+access_yes t x fits h = grind arith
 
 object_yes : {K : Type 0} (t : Tables K) (p : ℕ) (q : Request K) → request_no t p q ≡ None → object_no t p q ≡ None
-object_yes t p q h = inner (is_idle (process_at t p).phase) (due q (process_at t p).live) (object_no t p q) h
-  where
-    inner : (a b : Bool) (o : Option Refusal) → cond a (cond b o (Some refusal.Transaction)) (Some refusal.InHand) ≡ None → o ≡ None
-    inner true true o h = h
-    inner true false o h = cc
-    inner false b o h = cc
+object_yes t p q h = grind arith
 
 module _ {K : Type 0} (e : K) (t : Tables K) (p : ℕ) (g : Good e t) (l : p < length t.processes) where
   -- a request is placed
@@ -115,8 +85,7 @@ place_at e t p q None g h =
     let a = both (refused e t p) (request_no t p q) h in placed_good e t p g (within e t p a.0) q (object_yes t p q a.1)
   where
     both : (a b : Option Refusal) → first_no a b ≡ None → (a ≡ None) × (b ≡ None)
-    both None b h = (refl, h)
-    both (Some x) b h = cc
+    both a b h = grind arith
 
 pub place_good : {K : Type 0} (e : K) (t : Tables K) (p : ℕ) (q : Request K) → Good e t → Good e (place_call e t p q).tables
 place_good e t p q g = place_at e t p q (place_no e t p q) g refl

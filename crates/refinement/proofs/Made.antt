@@ -2,7 +2,6 @@
 use Rattle.std.proofs.Common.{◌≡◌, ℕ, ◌+◌, ◌<◌, true, List, [], ◌∷◌, ◌++◌, length, Some, None, Option, sym, refl, subst, arith}
 use Rattle.std.proofs.lemmas.List.{get_or-set_same}
 use Rattle.tables.specs.Tables.{Tables, process_at, hand_at, with_process, idle_process}
-use Rattle.tables.specs.declared.process.Access.TheVariants as access
 use Rattle.tables.specs.declared.process.Ending.TheVariants as ending
 use Rattle.tables.specs.declared.process.Phase.{Phase}
 use Rattle.tables.specs.declared.process.Phase.TheVariants.{Idle, Beginning, Reading, Writing, Extending, Certifying, Storing, Freeing}
@@ -120,16 +119,7 @@ MayCommit (Freeing next ending.Withdraw) = ⊥
 
 -- a request that is a commit stands in one of them
 may_commit : {K : Type 0} (h : K) (f : Phase) (r : Request K) → Asks h f r → r ≡ Commit → MayCommit f
-may_commit h Idle r a c = a
-may_commit h (Beginning next least) r a c = cc
-may_commit h (Reading x) r a c = cc
-may_commit h (Writing x) r a c = cc
-may_commit h (Extending x to next access.Read) r a c = cc
-may_commit h (Extending x to next access.Write) r a c = cc
-may_commit h (Certifying next) r a c = tt
-may_commit h (Storing next) r a c = tt
-may_commit h (Freeing next (ending.Abort x)) r a c = tt
-may_commit h (Freeing next ending.Withdraw) r a c = cc
+may_commit h f r a c = grind arith
 
 module _ {K : Type 0} (e : K) (P : ℕ) (number : ℕ → ℕ) (t u : Tables K) (s : State K) (p : ℕ) (f : Phase) (z : Stepped K) (q : (process_at t p).phase ≡ f) (live : (process_at t p).live ≡ true) where
   -- the step of a call, from its events and what is known of it in the phase f

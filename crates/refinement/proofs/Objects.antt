@@ -1,6 +1,6 @@
 -- A step that changes one object, or the pending content of one: what must be shown for the view after it.
-use Rattle.std.proofs.Common.{◌≡◌, ℕ, ◌≤◌, false, eqb, ◌⊎◌, List, Some, None, Option, sym, refl, ap, ◌∙◌, subst, inl, inr, arith}
-use Rattle.std.proofs.lemmas.Bool.{cases_eq, eqb-true, not-false}
+use Rattle.std.proofs.Common.{◌≡◌, ℕ, ◌≤◌, false, ◌⊎◌, List, Some, None, Option, sym, refl, ap, ◌∙◌, subst, inl, inr, arith}
+use Rattle.std.proofs.lemmas.Bool.{cases_eq}
 use Rattle.tables.specs.Lookup.{value_of}
 use Rattle.tables.specs.Tables.{Tables, process_at, object_at, hand_at, read_set}
 use Rattle.tables.specs.declared.map.Slot.{Slot}
@@ -13,7 +13,7 @@ use Rattle.protocol.specs.Protocol.Phase.{running}
 use Rattle.protocol.proofs.Updates.{put_same, put_other}
 use Rattle.refinement.proofs.Frames.{Frame}
 use Rattle.refinement.proofs.Own.{Good}
-use Rattle.refinement.proofs.Rows.{Row, row}
+use Rattle.refinement.proofs.Rows.{row}
 use Rattle.refinement.proofs.View.{pending_of, HolderAs, RowAs, View, other_pending, other_row, holder_of}
 
 module _ {K : Type 0} (e : K) (number : ℕ → ℕ) (t u : Tables K) (s z : State K) (p x : ℕ) (h : Held K) (g : Good e t) (v : View e number t s) (f : Frame t u p)
@@ -57,17 +57,10 @@ module _ {K : Type 0} (e : K) (number : ℕ → ℕ) (t u : Tables K) (s z : Sta
       d (own_holder (object_at e t x).holder (v.holds q x w b) clear)
     where
       own_holder : (o : Option ℕ) → o ≡ Some q → foreign o p ≡ false → q ≡ p
-      own_holder None n k = cc
-      own_holder (Some r) n k = let same : r ≡ q = cc in sym same ∙ eqb-true r p (not-false (eqb r p) k)
+      own_holder o n k = grind arith
 
   covered_other : (q y : ℕ) (w : K) → (p ≡ q → ⊥) → (x ≡ y → ⊥) → z.phase q ≡ running → z.held y ≡ by q w → (z.stamp y ≤ z.clock q) ⊎ (z.stamp y ≤ z.need q)
-  covered_other q y w d n run k =
-      let same = others q d in
-      let a = ap (λ (r : Row K). r.phase) same in
-      let b = ap (λ (r : Row K). r.clock) same in
-      let c = ap (λ (r : Row K). r.need) same in
-      let st = same_stamp y n in
-      elim (v.covered q y w (sym a ∙ run) (sym (held_away y n) ∙ k)) [ inl i ↦ inl (omega arith) | inr i ↦ inr (omega arith) ]
+  covered_other q y w d n run k = grind arith
 
   pub object_view : View e number u z
   object_view =

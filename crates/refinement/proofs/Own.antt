@@ -1,11 +1,9 @@
 -- What soundness says of one process, over its record and its two sets alone, and of a whole memory.
-use Rattle.std.proofs.Common.{◌≡◌, ℕ, ◌+◌, ◌-◌, ◌^◌, ◌<◌, ◌≤◌, Bool, true, false, cond, ◌&&◌, ◌||◌, eqb, ltb, leb, ◌⊎◌, List, length, is_some, refl, ◌∙◌, inl, inr, arith}
-use Rattle.std.proofs.lemmas.Bool.{and_from, lt-ltb, le-leb}
-use Rattle.std.proofs.lemmas.Bool.Decides.{nat_tests}
+use Rattle.std.proofs.Common.{◌≡◌, ℕ, ◌+◌, ◌-◌, ◌^◌, ◌<◌, ◌≤◌, true, cond, ◌&&◌, ◌||◌, eqb, leb, ◌⊎◌, List, length, is_some, refl, ◌∙◌, arith}
+use Rattle.std.proofs.lemmas.Bool.{and_from, le-leb}
 use Rattle.tables.specs.Lookup.{value_of}
 use Rattle.tables.specs.Tables.{Tables, process_at, read_set, write_set, sizes_ok}
 use Rattle.tables.specs.declared.map.Slot.{Slot}
-use Rattle.tables.specs.declared.memory.Object.{Object}
 use Rattle.tables.specs.declared.process.Access.{Access}
 use Rattle.tables.specs.declared.process.Access.TheVariants as access
 use Rattle.tables.specs.declared.process.Ending.{Ending}
@@ -15,8 +13,8 @@ use Rattle.tables.specs.declared.process.Phase.TheVariants.{Idle, Beginning, Rea
 use Rattle.tables.specs.declared.process.Process.{Process}
 use Rattle.tables.specs.declared.reply.Conflict.{Conflict}
 use Rattle.tables.specs.declared.reply.Conflict.TheVariants.{Held, Changed, Spent}
-use Rattle.engine.specs.Sound.{room, counts_ok, sets_ok, phase_ok, steps_left, sound_ok, all_named, stamps_ok, distinct, named_ok, ending_ok, access_room, readable, writable}
-use Rattle.refinement.proofs.Sets.{names, below, apart, ObjectsOk, named_from, named_of_below, distinct_apart}
+use Rattle.engine.specs.Sound.{room, counts_ok, sets_ok, phase_ok, steps_left, sound_ok, all_named, stamps_ok, distinct}
+use Rattle.refinement.proofs.Sets.{names, below, apart, ObjectsOk, named_of_below, distinct_apart}
 
 -- the objects that an ending names are below n
 abbrev pub ConflictNamed : ℕ → Conflict → Type 0
@@ -65,61 +63,14 @@ pub record Good {K : Type 0} (e : K) (t : Tables K) : Type 0 where
   pub objects : ObjectsOk e t.objects (length t.processes)
   pub owns : (p : ℕ) → p < length t.processes → Own t p
 
--- the tests, from the facts
-ending_from : {K : Type 0} (e : K) (os : List (Object K)) (n : ℕ) (x : Ending) → ObjectsOk e os n → EndingNamed (length os) x → ending_ok e os n x ≡ true
-ending_from e os n (Abort (Held x)) ok h = named_from e os n x ok h
-ending_from e os n (Abort (Changed x)) ok h = named_from e os n x ok h
-ending_from e os n (Abort Spent) ok h = refl
-ending_from e os n Withdraw ok h = refl
-
-access_from : {K : Type 0} (t : Tables K) (p x : ℕ) (a : Access) → AccessFits (process_at t p) (read_set t p) x a → access_room t p x a ≡ true
-access_from t p x access.Read h = h
-access_from t p x access.Write h = refl
-
-freeing_from : (next n : ℕ) (ok : Bool) → (n ≡ 0) ⊎ (next < n) → ok ≡ true → ((eqb n 0 || ltb next n) && ok) ≡ true
-freeing_from next n ok (inl h) k = grind (arith, nat_tests)
-freeing_from next n ok (inr h) k = grind (arith, nat_tests)
-
 pub phase_from : {K : Type 0} (e : K) (t : Tables K) (p : ℕ) (f : Phase) → ObjectsOk e t.objects (length t.processes) → PhaseOwn (length t.processes) (length t.objects) (process_at t p) (read_set t p) (write_set t p) f → phase_ok e t p (process_at t p) f ≡ true
-phase_from e t p Idle ok h = refl
-phase_from e t p (Beginning next least) ok h =
-    and_from (ltb next (length t.processes)) (leb least (2 ^ 40)) (lt-ltb next (length t.processes) h.0) (le-leb least (2 ^ 40) h.1)
-phase_from e t p (Reading x) ok h =
-    and_from (named_ok e t.objects (length t.processes) x) (readable t p x) (named_from e t.objects (length t.processes) x ok h.0) h.1
-phase_from e t p (Writing x) ok h =
-    and_from (named_ok e t.objects (length t.processes) x) (writable t p x) (named_from e t.objects (length t.processes) x ok h.0) h.1
-phase_from e t p (Extending x to next a) ok h =
-    let named = named_ok e t.objects (length t.processes) x in
-    and_from (named && leb to (2 ^ 40) && ltb next (process_at t p).reads) (access_room t p x a)
-    (and_from (named && leb to (2 ^ 40)) (ltb next (process_at t p).reads)
-    (and_from named (leb to (2 ^ 40)) (named_from e t.objects (length t.processes) x ok h.0) (le-leb to (2 ^ 40) h.1))
-    (lt-ltb next (process_at t p).reads h.2))
-    (access_from t p x a h.3)
-phase_from e t p (Certifying next) ok h = le-leb next (process_at t p).reads h.0
-phase_from e t p (Storing next) ok h = lt-ltb next (process_at t p).writes h.0
-phase_from e t p (Freeing next x) ok h =
-    freeing_from next (process_at t p).writes (ending_ok e t.objects (length t.processes) x) h.0
-    (ending_from e t.objects (length t.processes) x ok h.1)
-
--- one step if the object is in the write set, else k more
-either_bound : (b : Bool) (s k m : ℕ) → s ≡ 0 → 1 ≤ m → (b ≡ false → k ≤ m) → s + cond b 1 k ≤ m
-either_bound true s k m z l h = omega arith
-either_bound false s k m z l h = let a : k ≤ m = h refl in omega arith
+phase_from e t p f ok h = grind arith
 
 pub steps_from : {K : Type 0} (t : Tables K) (p : ℕ) (f : Phase) → length t.processes ≤ 64 → (process_at t p).reads ≤ 32 → (process_at t p).writes ≤ 16 → (process_at t p).phase ≡ f → PhaseOwn (length t.processes) (length t.objects) (process_at t p) (read_set t p) (write_set t p) f → (process_at t p).steps + steps_left t p (process_at t p) f ≤ 64
-steps_from t p Idle few a b q h = omega arith
-steps_from t p (Beginning next least) few a b q h = let z = h.0 in let y = h.2 in omega arith
-steps_from t p (Reading x) few a b q h =
-    either_bound (is_some (value_of (write_set t p) x)) (process_at t p).steps (1 + (process_at t p).reads + (process_at t p).writes) 64 h.2 (omega arith) (λ _. omega arith)
-steps_from t p (Writing x) few a b q h =
-    either_bound (is_some (value_of (write_set t p) x)) (process_at t p).steps (2 + (process_at t p).reads + (process_at t p).writes) 64 h.2 (omega arith) (λ _. omega arith)
-steps_from t p (Extending x to next a) few c b q h = let z = h.4 in omega arith
-steps_from t p (Certifying next) few a b q h = let z = h.1 in omega arith
-steps_from t p (Storing next) few a b q h = let z = h.1 in omega arith
-steps_from t p (Freeing next x) few a b q h = let z = h.2 in omega arith
+steps_from t p f few a b q h = grind arith
 
 few_from : {K : Type 0} (t : Tables K) → sizes_ok t ≡ true → length t.processes ≤ 64
-few_from t h = grind (arith, nat_tests)
+few_from t h = grind arith
 
 pub sound_from : {K : Type 0} (e : K) (t : Tables K) (p : ℕ) → Good e t → p < length t.processes → sound_ok e t p ≡ true
 sound_from e t p g l =
@@ -145,4 +96,4 @@ sound_from e t p g l =
     (le-leb (r.steps + steps_left t p r r.phase) 64 st)
   where
     counts_from : (a b c d : ℕ) → a ≤ 32 → b ≤ 16 → c ≤ 2 ^ 40 → d ≤ 64 → (leb a 32 && leb b 16 && leb c (2 ^ 40) && leb d 64) ≡ true
-    counts_from a b c d h i j k = grind (arith, nat_tests)
+    counts_from a b c d h i j k = grind arith

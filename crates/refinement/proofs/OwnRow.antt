@@ -1,5 +1,5 @@
 -- A step that changes its process's own row alone: no object, no holder and no pending content. The bank may grow.
-use Rattle.std.proofs.Common.{◌≡◌, ℕ, ◌≤◌, ◌⊎◌, List, get_or, Some, None, Option, sym, ap, ◌∙◌, subst, inl, inr, arith}
+use Rattle.std.proofs.Common.{◌≡◌, ℕ, ◌≤◌, ◌⊎◌, List, get_or, Option, sym, ap, ◌∙◌, subst, inl, inr, arith}
 use Rattle.std.proofs.lemmas.Bool.{cases_eq}
 use Rattle.tables.specs.Lookup.{value_of}
 use Rattle.tables.specs.Tables.{Tables, process_at, object_at, hand_at, read_set, blank_object}
@@ -10,21 +10,16 @@ use Rattle.protocol.specs.Protocol.Held.{by}
 use Rattle.protocol.specs.Protocol.Phase.{running}
 use Rattle.refinement.proofs.Frames.{Frame}
 use Rattle.refinement.proofs.Own.{Good}
-use Rattle.refinement.proofs.Rows.{Row, row}
+use Rattle.refinement.proofs.Rows.{row}
 use Rattle.refinement.proofs.View.{pending_of, HolderAs, RowAs, View, other_pending, other_row}
 
 -- a holder, over tables with the same pending contents
 pub holder_at : {K : Type 0} (t u : Tables K) (x : ℕ) (o : Option ℕ) (h : Held K) → ((q : ℕ) → pending_of u q ≡ pending_of t q) → HolderAs t x o h → HolderAs u x o h
-holder_at t u x None h same a = a
-holder_at t u x (Some q) h same a = (a.0, ap (λ (l : List (Slot _)). value_of l x) (same q) ∙ a.1, a.2)
+holder_at t u x o h same a = grind arith
 
 -- the clock covers what q holds, over an equal row
 covered_at : {K : Type 0} (s z : State K) (q x : ℕ) (v : K) → row z q ≡ row s q → (s.phase q ≡ running → (s.stamp x ≤ s.clock q) ⊎ (s.stamp x ≤ s.need q)) → z.stamp x ≡ s.stamp x → z.phase q ≡ running → (z.stamp x ≤ z.clock q) ⊎ (z.stamp x ≤ z.need q)
-covered_at s z q x v same c st run =
-    let a = ap (λ (r : Row _). r.phase) same in
-    let b = ap (λ (r : Row _). r.clock) same in
-    let d = ap (λ (r : Row _). r.need) same in
-    elim (c (sym a ∙ run)) [ inl k ↦ inl (omega arith) | inr k ↦ inr (omega arith) ]
+covered_at s z q x v same c st run = grind arith
 
 module _ {K : Type 0} (e : K) (number larger : ℕ → ℕ) (t u : Tables K) (s z : State K) (p : ℕ) (g : Good e t) (v : View e number t s) (f : Frame t u p)
     (objects : u.objects ≡ t.objects) (pending : pending_of u p ≡ pending_of t p)

@@ -1,5 +1,5 @@
 -- The steps of snapshot extension and certification whose look has passed, as blocks of events.
-use Rattle.std.proofs.Common.{◌≡◌, ℕ, ◌+◌, ◌*◌, ◌<◌, ◌≤◌, Bool, true, false, cond, eqb, List, [], ◌∷◌, length, drop, Some, Option, sym, refl, ap, ◌∙◌, subst, inl, inr, arith}
+use Rattle.std.proofs.Common.{◌≡◌, ℕ, ◌+◌, ◌*◌, ◌<◌, ◌≤◌, Bool, true, false, cond, eqb, List, [], ◌∷◌, length, drop, Some, sym, refl, ap, ◌∙◌, subst, inl, arith}
 use Rattle.tables.specs.Lookup.{value_of}
 use Rattle.tables.specs.Tables.{Tables, process_at, object_at, hand_at, read_at, read_set, with_process}
 use Rattle.tables.specs.declared.map.Slot.{Slot}
@@ -28,12 +28,7 @@ use Rattle.refinement.proofs.Extending.{open_pair, same_pair, passed_more, all_p
 
 -- what is seen once x is in the read set at a stamp
 seen_put : {K : Type 0} (rs ns : List (Slot ℕ)) (x u : ℕ) (w : K) (f : ℕ → _) → ((y : ℕ) → value_of ns y ≡ cond (eqb x y) (Some u) (value_of rs y)) → ((y : ℕ) → SeenAs (value_of rs y) (f y)) → (y : ℕ) → SeenAs (value_of ns y) (put f x (saw u w) y)
-seen_put rs ns x u w f h a y =
-    subst (λ (o : Option ℕ). SeenAs o (put f x (saw u w) y)) (sym (h y)) (go (eqb x y))
-  where
-    go : (b : Bool) → SeenAs (cond b (Some u) (value_of rs y)) (cond b (saw u w) (f y))
-    go true = (w, refl)
-    go false = a y
+seen_put rs ns x u w f h a y = grind arith
 
 module _ {K : Type 0} (e : K) (number : ℕ → ℕ) (t : Tables K) (s : State K) (p : ℕ) (g : Good e t) (v : View e number t s) (l : p < length t.processes) (live : (process_at t p).live ≡ true) where
   module _ (x to i : ℕ) (h : _) (a : Extends (process_at t p) (read_set t p) to i h (row s p)) (within : i < (process_at t p).reads)
@@ -67,11 +62,7 @@ module _ {K : Type 0} (e : K) (number : ℕ → ℕ) (t : Tables K) (s : State K
         record { phase = a.phase; seen = a.seen; clock = a.clock ∙ sym c; hand = a.hand; need = a.need; later = omega arith; passed = passed_now }
 
     pub covers_extended : (y : ℕ) (k : K) → s.held y ≡ by p k → s.stamp y ≤ s.need p
-    covers_extended y k c =
-        let b = a.clock in
-        let d = a.need in
-        let m = a.later in
-        elim (v.covered p y k a.phase c) [ inl z ↦ omega arith | inr z ↦ z ]
+    covers_extended y k c = grind arith
 
   -- an extension that goes on
   pub extending_shown : (x to i : ℕ) (acc : Access) → (process_at t p).phase ≡ Extending x to i acc → i < (process_at t p).reads

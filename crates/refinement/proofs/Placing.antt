@@ -1,7 +1,6 @@
 -- The placings, and the steps that touch no object, as blocks of events.
-use Rattle.std.proofs.Common.{◌≡◌, ℕ, ◌+◌, ◌*◌, ◌<◌, ◌≤◌, min, Bool, true, false, List, [], ◌∷◌, length, drop, Some, None, sym, refl, ap, ◌∙◌, subst, inl, inr, arith}
+use Rattle.std.proofs.Common.{◌≡◌, ℕ, ◌+◌, ◌*◌, ◌<◌, ◌≤◌, min, Bool, true, false, List, [], ◌∷◌, length, drop, Some, sym, refl, ap, ◌∙◌, subst, inl, inr, arith}
 use Rattle.std.proofs.lemmas.Bool.{cases_lt}
-use Rattle.std.proofs.lemmas.List.{drop_all}
 use Rattle.tables.specs.Lookup.{value_of}
 use Rattle.tables.specs.Tables.{Tables, process_at, object_at, hand_at, read_set, write_set, with_process}
 use Rattle.tables.specs.declared.map.Slot.{Slot}
@@ -49,34 +48,21 @@ module _ {K : Type 0} (e : K) (number : ℕ → ℕ) (t : Tables K) (s : State K
       omega arith
     where
       empty_pending : (n k : ℕ) → n ≡ 0 → value_of (drop k (window t.writes (p * 16) n)) x ≡ Some w → ◌≡◌ {A = ℕ} 0 1
-      empty_pending n k h a =
-          let none : value_of (drop k (window t.writes (p * 16) n)) x ≡ None =
-          ap (λ (m : ℕ). value_of (drop k (window t.writes (p * 16) m)) x) h
-          ∙ ap (λ (z : List (Slot K)). value_of z x) (drop_all k (window t.writes (p * 16) 0) (omega arith)) in
-          cc
+      empty_pending n k h a = grind arith
 
   -- a resting transaction's clock covers what it holds
   pub rest_covers : Rests (process_at t p) (read_set t p) (row s p) → (x : ℕ) (k : K) → s.held x ≡ by p k → s.stamp x ≤ s.clock p
-  rest_covers a x k h =
-      let b = a.level in elim (v.covered p x k a.phase h) [ inl c ↦ c | inr c ↦ omega arith ]
+  rest_covers a x k h = grind arith
 
   -- the same resting row, for a record with the same clock
   pub rests_on : (r : Process) (rs : List (Slot ℕ)) → r.clock ≡ (process_at t p).clock → Rests (process_at t p) rs (row s p) → Rests r rs (row s p)
   rests_on r rs c a = record { phase = a.phase; seen = a.seen; clock = a.clock ∙ sym c; hand = a.hand; level = a.level }
 
   first_row : (q : Request K) (h : K) → Rests (process_at t p) (read_set t p) (row s p) → (q ≡ ask.Begin → ⊥) → LiveAs number (placed (process_at t p) q) (read_set t p) h (first_phase q) (row s p)
-  first_row ask.Begin h a n = absurd (n refl)
-  first_row (ask.Read x) h a n = rests_on (placed {K = K} (process_at t p) (ask.Read x)) (read_set t p) refl a
-  first_row (ask.Write x w) h a n = rests_on (placed {K = K} (process_at t p) (ask.Write x w)) (read_set t p) refl a
-  first_row ask.Commit h a n = inl (refl, refl, rests_on (placed {K = K} (process_at t p) ask.Commit) (read_set t p) refl a)
-  first_row ask.Withdraw h a n = inl (refl, refl, rests_on (placed {K = K} (process_at t p) ask.Withdraw) (read_set t p) refl a)
+  first_row q h a n = grind arith
 
   none_gone : (q : Request K) → gone (first_phase q) ≡ 0
-  none_gone ask.Begin = refl
-  none_gone (ask.Read x) = refl
-  none_gone (ask.Write x w) = refl
-  none_gone ask.Commit = refl
-  none_gone ask.Withdraw = refl
+  none_gone q = grind arith
 
   -- a request other than begin is placed: no event
   pub placed_shown : (w : Tables K) (q : Request K) → Frame t w p → w.objects ≡ t.objects → w.writes ≡ t.writes → w.reads ≡ t.reads → (process_at t p).live ≡ true → (process_at t p).phase ≡ Idle → (q ≡ ask.Begin → ⊥)

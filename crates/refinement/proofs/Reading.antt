@@ -1,7 +1,6 @@
 -- The steps of a read, and snapshot extension, as blocks of events.
 use Rattle.std.proofs.Common.{◌≡◌, ℕ, ◌+◌, ◌*◌, ◌<◌, ◌≤◌, Bool, true, false, cond, eqb, List, [], ◌∷◌, ◌++◌, length, drop, Some, None, Option, sym, refl, ap, ◌∙◌, subst, inl, inr, arith}
-use Rattle.std.proofs.lemmas.Bool.{eqb-true, cases_Bool, not-false}
-use Rattle.std.proofs.lemmas.Bool.Decides.{nat_tests}
+use Rattle.std.proofs.lemmas.Bool.{cases_Bool}
 use Rattle.std.proofs.lemmas.List.{get_or-set_same}
 use Rattle.tables.specs.Lookup.{pair, value_of}
 use Rattle.tables.specs.Tables.{Tables, process_at, object_at, hand_at, read_set, write_set, with_process, with_hand, with_read}
@@ -15,10 +14,9 @@ use Rattle.engine.specs.Look.{foreign, differs}
 use Rattle.protocol.specs.Table.{put}
 use Rattle.protocol.specs.Protocol.{LawfulFrom, State, May, Idle as Rest}
 use Rattle.protocol.specs.Protocol.Held.{nobody}
-use Rattle.protocol.specs.Protocol.Seen.{unseen, saw}
+use Rattle.protocol.specs.Protocol.Seen.{saw}
 use Rattle.protocol.specs.Protocol.Hand.{full}
 use Rattle.protocol.specs.Protocol.Event.{look, extend, answer, own}
-use Rattle.protocol.proofs.Updates.{put_same}
 use Rattle.refinement.proofs.Frames.{Frame, frame_hand}
 use Rattle.refinement.proofs.Own.{Good}
 use Rattle.refinement.proofs.Sets.{value_first}
@@ -27,7 +25,7 @@ use Rattle.refinement.proofs.Changes.{sizes_facts}
 use Rattle.refinement.proofs.Rows.{Row, row}
 use Rattle.refinement.proofs.Blocks.{acted_all, shows}
 use Rattle.refinement.proofs.Placing.{Shown, live_at, pending_at, rest_covers, rests_on}
-use Rattle.refinement.proofs.View.{gone, pending_of, SeenAs, Rests, LiveAs, RowAs, View, same_to, held_mine, held_nobody}
+use Rattle.refinement.proofs.View.{gone, pending_of, SeenAs, Rests, LiveAs, RowAs, View, same_to, held_mine}
 
 -- look-ups in a set with one pair more
 pub value_push : {V : Type 0} (xs : List (Slot V)) (x y : ℕ) (u : V) → value_of xs x ≡ None → value_of (xs ++ pair x u ∷ []) y ≡ cond (eqb x y) (Some u) (value_of xs y)
@@ -44,11 +42,10 @@ value_push (s ∷ ss) x y u h =
     ]
   where
     some_none : {V : Type 0} (v : V) (o : Option V) (b : Bool) → b ≡ true → cond b (Some v) o ≡ None → ◌≡◌ {A = ℕ} 0 1
-    some_none v o true q h = cc
-    some_none v o false q h = cc
+    some_none v o b q h = cc
 
     other : (a x y : ℕ) → eqb a x ≡ false → eqb a y ≡ true → eqb x y ≡ false
-    other a x y n m = grind (arith, nat_tests)
+    other a x y n m = grind arith
 
 module _ {K : Type 0} (e : K) (number : ℕ → ℕ) (t : Tables K) (s : State K) (p : ℕ) (g : Good e t) (v : View e number t s) (l : p < length t.processes) where
   rest_of : Rests (process_at t p) (read_set t p) (row s p) → Rest s p
@@ -78,14 +75,10 @@ module _ {K : Type 0} (e : K) (number : ℕ → ℕ) (t : Tables K) (s : State K
   module _ (x : ℕ) (a : Rests (process_at t p) (read_set t p) (row s p)) (none : value_of (write_set t p) x ≡ None) (q : (process_at t p).phase ≡ Reading x)
       (clear : foreign (object_at e t x).holder p ≡ false) (fresh : differs (value_of (read_set t p) x) (object_at e t x).stamp ≡ false) where
     nobody_holds : s.held x ≡ nobody
-    nobody_holds =
-        held_nobody e number t s v p x clear (ap (λ (z : List (Slot K)). value_of z x) (pending_at e number t s p g v l (Reading x) q) ∙ none)
+    nobody_holds = grind arith
 
     pend : (r : Process) → r.phase ≡ Idle → r.writes ≡ (process_at t p).writes → drop (gone r.phase) (window t.writes (p * 16) r.writes) ≡ pending_of t p
-    pend r rp wr =
-        ap (λ (f : Phase). drop (gone f) (window t.writes (p * 16) r.writes)) rp
-        ∙ ap (λ (n : ℕ). window t.writes (p * 16) n) wr
-        ∙ sym (pending_at e number t s p g v l (Reading x) q)
+    pend r rp wr = cc
 
     look_may : May (length t.processes) s (look p x (object_at e t x).content)
     look_may = (rest_of a, nobody_holds, same_to e number t s v p x (a.seen x) fresh, v.contents x)
@@ -95,29 +88,15 @@ module _ {K : Type 0} (e : K) (number : ℕ → ℕ) (t : Tables K) (s : State K
     In-set rs = (y : ℕ) → value_of rs y ≡ cond (eqb x y) (Some (object_at e t x).stamp) (value_of (read_set t p) y)
 
     seen_put : (rs : List (Slot ℕ)) → In-set rs → (y : ℕ) → SeenAs (value_of rs y) (put (s.seen p) x (saw (object_at e t x).stamp (object_at e t x).content) y)
-    seen_put rs h y =
-        subst (λ (o : Option ℕ). SeenAs o (put (s.seen p) x (saw (object_at e t x).stamp (object_at e t x).content) y)) (sym (h y)) (go (eqb x y))
-      where
-        go : (b : Bool) → SeenAs (cond b (Some (object_at e t x).stamp) (value_of (read_set t p) y)) (cond b (saw (object_at e t x).stamp (object_at e t x).content) (s.seen p y))
-        go true = ((object_at e t x).content, refl)
-        go false = a.seen y
+    seen_put rs h y = grind arith
 
     -- what was seen is the stamp that was found
     present : (u : ℕ) (o : Option ℕ) → o ≡ Some u → differs o (object_at e t x).stamp ≡ false → u ≡ (object_at e t x).stamp
-    present u None n d = cc
-    present u (Some k) n d = let z : k ≡ u = cc in sym z ∙ eqb-true k (object_at e t x).stamp (not-false (eqb k (object_at e t x).stamp) d)
+    present u o n d = grind arith
 
     -- x is in the read set already
     pub in_already : (u : ℕ) → value_of (read_set t p) x ≡ Some u → In-set (read_set t p)
-    in_already u h y =
-        elim (cases_Bool (eqb x y)) [
-          | inl b ↦
-              (let same : x ≡ y = eqb-true x y b in
-              let st : u ≡ (object_at e t x).stamp = present u (value_of (read_set t p) x) h fresh in
-              let c : value_of (read_set t p) y ≡ Some u = ap (value_of (read_set t p)) (sym same) ∙ h in
-              simp b (c ∙ ap Some st))
-          | inr b ↦ simp b
-        ]
+    in_already u h y = grind arith
 
     -- the pair joins
     pub in_joined : (process_at t p).reads < 32 → value_of (read_set t p) x ≡ None → In-set (window (with_read t p (process_at t p).reads (pair x (object_at e t x).stamp)).reads (p * 32) ((process_at t p).reads + 1))
@@ -132,53 +111,19 @@ module _ {K : Type 0} (e : K) (number : ℕ → ℕ) (t : Tables K) (s : State K
 
     -- The events of a read that is answered in its first step; with a later stamp, the read set is empty.
     pub now_lawful : (object_at e t x).stamp ≤ (process_at t p).clock → LawfulFrom (length t.processes) s (answer p x (object_at e t x).stamp (object_at e t x).content ∷ look p x (object_at e t x).content ∷ [])
-    now_lawful low =
-        let c = a.clock in
-        let d = stamp_is in (
-          (tt, look_may),
-          (
-            a.phase,
-            put_same s.hand p (full x (s.stamp x) (object_at e t x).content) p refl ∙ ap (λ (k : ℕ). full x k (object_at e t x).content) stamp_is,
-            (let n = put_same s.need p (s.stamp x) p refl in omega arith),
-          ),
-        )
+    now_lawful low = grind arith
 
     pub later_lawful : (process_at t p).reads ≡ 0 → (process_at t p).clock < (object_at e t x).stamp → LawfulFrom (length t.processes) s (answer p x (object_at e t x).stamp (object_at e t x).content ∷ extend p ∷ look p x (object_at e t x).content ∷ [])
-    later_lawful none_read late =
-        let c = a.clock in
-        let d = stamp_is in
-        let n = put_same s.need p (s.stamp x) p refl in (
-          (
-            (tt, look_may),
-            (a.phase, omega arith, λ y u w h. absurd (unread y u w (process_at t p).reads none_read h)),
-          ),
-          (
-            a.phase,
-            put_same s.hand p (full x (s.stamp x) (object_at e t x).content) p refl ∙ ap (λ (k : ℕ). full x k (object_at e t x).content) stamp_is,
-            (let m = put_same s.clock p (put s.need p (s.stamp x) p) p refl in omega arith),
-          ),
-        )
-      where
-        unread : (y u : ℕ) (w : K) (n : ℕ) → n ≡ 0 → s.seen p y ≡ saw u w → ⊥
-        unread y u w n z h =
-            let b : s.seen p y ≡ unseen = empty_set (process_at t p).reads none_read (a.seen y) in
-            cc
-          where
-            empty_set : (m : ℕ) → m ≡ 0 → SeenAs (value_of (window t.reads (p * 32) m) y) (s.seen p y) → s.seen p y ≡ unseen
-            empty_set m z k = subst (λ (i : ℕ). SeenAs (value_of (window t.reads (p * 32) i) y) (s.seen p y)) z k
+    later_lawful none_read late = grind arith
 
     -- the row once the read is answered
     now_row : (r : Process) (rs : List (Slot ℕ)) → In-set rs → r.clock ≡ (process_at t p).clock → (object_at e t x).stamp ≤ (process_at t p).clock
         → Rests r rs (acted_all s.stamp (answer p x (object_at e t x).stamp (object_at e t x).content ∷ look p x (object_at e t x).content ∷ []) (row s p))
-    now_row r rs h c low =
-        let d = stamp_is in
-        let b = a.clock in
-        record { phase = a.phase; seen = seen_put rs h; clock = a.clock ∙ sym c; hand = refl; level = omega arith }
+    now_row r rs h c low = grind arith
 
     later_row : (r : Process) (rs : List (Slot ℕ)) → In-set rs → r.clock ≡ (object_at e t x).stamp
         → Rests r rs (acted_all s.stamp (answer p x (object_at e t x).stamp (object_at e t x).content ∷ extend p ∷ look p x (object_at e t x).content ∷ []) (row s p))
-    later_row r rs h c =
-        record { phase = a.phase; seen = seen_put rs h; clock = stamp_is ∙ sym c; hand = refl; level = omega arith }
+    later_row r rs h c = grind arith
 
     -- the answered read, over tables w with the record r
     pub now_shown : (w : Tables K) (r : Process) → Frame t w p → w.objects ≡ t.objects → w.writes ≡ t.writes → r.live ≡ true → r.phase ≡ Idle → r.writes ≡ (process_at t p).writes → r.clock ≡ (process_at t p).clock → In-set (window w.reads (p * 32) r.reads) → (object_at e t x).stamp ≤ (process_at t p).clock

@@ -27,7 +27,6 @@ use Rattle.refinement.proofs.View.{gone, pending_of, HolderAs, FreeingAs, RowAs,
 use Rattle.engine.specs.Ends.{ended, released, unheld_object}
 use Rattle.refinement.proofs.Extending.{window_get_or}
 use Rattle.tables.specs.declared.process.Ending.{Ending}
-use Rattle.tables.specs.declared.process.Ending.TheVariants.{Abort, Withdraw}
 use Rattle.tables.specs.declared.memory.Object.{Object}
 use Rattle.engine.specs.Commit.{stored, stored_object}
 use Rattle.refinement.proofs.Objects.{object_view}
@@ -229,8 +228,7 @@ module _ {K : Type 0} (e : K) (number : ℕ → ℕ) (t : Tables K) (s : State K
       }
     where
       freeing : (x : Ending) → s.phase p ≡ aborting → FreeingAs (advanced (process_at t p) (Freeing (i + 1) x)) (read_set t p) (i + 1) x (row s p)
-      freeing (Abort c) a = a
-      freeing Withdraw a = inr a
+      freeing x a = grind arith
 
   -- the last object is freed
   pub free_last : s.phase p ≡ aborting → i + 1 ≡ (process_at t p).writes → Shown e (length t.processes) number (ended e (released e t the_object) p) s (close p ∷ free p the_object the_content ∷ [])

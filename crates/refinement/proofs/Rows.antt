@@ -1,12 +1,11 @@
 -- What an event does to the row of the process that acts, and that it leaves the rows of the others.
-use Rattle.std.proofs.Common.{◌≡◌, ℕ, Bool, true, false, sym, refl, ap, ◌∙◌}
+use Rattle.std.proofs.Common.{◌≡◌, ℕ, Bool, true, false, arith}
 use Rattle.protocol.specs.Table.{put}
 use Rattle.protocol.specs.Protocol.{State, Seen, Hand, Phase, Event, next}
 use Rattle.protocol.specs.Protocol.Seen.{unseen, saw}
 use Rattle.protocol.specs.Protocol.Hand.{empty, full}
 use Rattle.protocol.specs.Protocol.Phase.{out, starting, running, certifying, aborting, sealing}
 use Rattle.protocol.specs.Protocol.Event.{begin, ready, look, check, extend, answer, own, write, certify, pass, seal, finish, move, store, fail, free, commit, close}
-use Rattle.protocol.proofs.Updates.{put_same, put_other}
 
 -- the part of a state that belongs to one process
 pub record Row (K : Type 0) : Type 0 where
@@ -74,50 +73,8 @@ module _ {K : Type 0} where
   Acts (close q) p = q ≡ p
 
   pub row_acted : (s : State K) (ev : Event K) (p : ℕ) → Acts ev p → row (next s ev) p ≡ acted s.stamp ev (row s p)
-  row_acted s (begin q) p a = λ i. record { phase = put_same s.phase q starting p a i; seen = s.seen p; passed = s.passed p; hand = s.hand p; clock = s.clock p; need = s.need p }
-  row_acted s (ready q c) p a =
-      λ i. record { phase = put_same s.phase q running p a i; seen = put_same s.seen q (λ x. unseen) p a i; passed = s.passed p; hand = put_same s.hand q empty p a i; clock = put_same s.clock q c p a i; need = put_same s.need q 0 p a i }
-  row_acted s (look q x v) p a =
-      λ i. record { phase = s.phase p; seen = s.seen p; passed = put_same s.passed q (λ y. false) p a i; hand = put_same s.hand q (full x (s.stamp x) v) p a i; clock = s.clock p; need = put_same s.need q (s.stamp x) p a i }
-  row_acted s (check q x) p a =
-      λ i. record { phase = s.phase p; seen = s.seen p; passed = (put_same s.passed q (put (s.passed q) x true) p a ∙ ap (λ (z : ℕ). put (s.passed z) x true) a) i; hand = s.hand p; clock = s.clock p; need = s.need p }
-  row_acted s (extend q) p a =
-      λ i. record { phase = s.phase p; seen = s.seen p; passed = s.passed p; hand = s.hand p; clock = (put_same s.clock q (s.need q) p a ∙ ap s.need a) i; need = s.need p }
-  row_acted s (answer q x t v) p a =
-      λ i. record { phase = s.phase p; seen = (put_same s.seen q (put (s.seen q) x (saw t v)) p a ∙ ap (λ (z : ℕ). put (s.seen z) x (saw t v)) a) i; passed = s.passed p; hand = put_same s.hand q empty p a i; clock = s.clock p; need = s.need p }
-  row_acted s (own q x v) p a = refl
-  row_acted s (write q x v) p a =
-      λ i. record { phase = s.phase p; seen = s.seen p; passed = put_same s.passed q (λ y. false) p a i; hand = s.hand p; clock = s.clock p; need = put_same s.need q (s.stamp x) p a i }
-  row_acted s (certify q) p a =
-      λ i. record { phase = put_same s.phase q certifying p a i; seen = s.seen p; passed = put_same s.passed q (λ y. false) p a i; hand = s.hand p; clock = s.clock p; need = s.need p }
-  row_acted s (pass q x) p a =
-      λ i. record { phase = s.phase p; seen = s.seen p; passed = (put_same s.passed q (put (s.passed q) x true) p a ∙ ap (λ (z : ℕ). put (s.passed z) x true) a) i; hand = s.hand p; clock = s.clock p; need = s.need p }
-  row_acted s (seal q t b) p a = λ i. record { phase = put_same s.phase q (sealing t) p a i; seen = s.seen p; passed = s.passed p; hand = s.hand p; clock = s.clock p; need = s.need p }
-  row_acted s (finish q) p a = λ i. record { phase = put_same s.phase q aborting p a i; seen = s.seen p; passed = s.passed p; hand = s.hand p; clock = s.clock p; need = s.need p }
-  row_acted s (move b) p a = absurd a
-  row_acted s (store q x v t) p a = refl
-  row_acted s (fail q c) p a = λ i. record { phase = put_same s.phase q aborting p a i; seen = s.seen p; passed = s.passed p; hand = s.hand p; clock = s.clock p; need = s.need p }
-  row_acted s (free q x v) p a = refl
-  row_acted s (commit q t) p a = λ i. record { phase = put_same s.phase q out p a i; seen = s.seen p; passed = s.passed p; hand = s.hand p; clock = s.clock p; need = s.need p }
-  row_acted s (close q) p a = λ i. record { phase = put_same s.phase q out p a i; seen = s.seen p; passed = s.passed p; hand = s.hand p; clock = s.clock p; need = s.need p }
+  row_acted s ev p a = grind arith
 
   -- the rows of the others
   pub row_others : (s : State K) (ev : Event K) (p q : ℕ) → Acts ev p → (p ≡ q → ⊥) → row (next s ev) q ≡ row s q
-  row_others s (begin w) p q a n = λ i. record { phase = put_other s.phase w (starting) q (λ e. n (sym a ∙ e)) i; seen = s.seen q; passed = s.passed q; hand = s.hand q; clock = s.clock q; need = s.need q }
-  row_others s (ready w c) p q a n = λ i. record { phase = put_other s.phase w (running) q (λ e. n (sym a ∙ e)) i; seen = put_other s.seen w (λ x. unseen) q (λ e. n (sym a ∙ e)) i; passed = s.passed q; hand = put_other s.hand w (empty) q (λ e. n (sym a ∙ e)) i; clock = put_other s.clock w (c) q (λ e. n (sym a ∙ e)) i; need = put_other s.need w (0) q (λ e. n (sym a ∙ e)) i }
-  row_others s (look w x v) p q a n = λ i. record { phase = s.phase q; seen = s.seen q; passed = put_other s.passed w (λ y. false) q (λ e. n (sym a ∙ e)) i; hand = put_other s.hand w (full x (s.stamp x) v) q (λ e. n (sym a ∙ e)) i; clock = s.clock q; need = put_other s.need w (s.stamp x) q (λ e. n (sym a ∙ e)) i }
-  row_others s (check w x) p q a n = λ i. record { phase = s.phase q; seen = s.seen q; passed = put_other s.passed w (put (s.passed w) x true) q (λ e. n (sym a ∙ e)) i; hand = s.hand q; clock = s.clock q; need = s.need q }
-  row_others s (extend w) p q a n = λ i. record { phase = s.phase q; seen = s.seen q; passed = s.passed q; hand = s.hand q; clock = put_other s.clock w (s.need w) q (λ e. n (sym a ∙ e)) i; need = s.need q }
-  row_others s (answer w x t v) p q a n = λ i. record { phase = s.phase q; seen = put_other s.seen w (put (s.seen w) x (saw t v)) q (λ e. n (sym a ∙ e)) i; passed = s.passed q; hand = put_other s.hand w (empty) q (λ e. n (sym a ∙ e)) i; clock = s.clock q; need = s.need q }
-  row_others s (own w x v) p q a n = refl
-  row_others s (write w x v) p q a n = λ i. record { phase = s.phase q; seen = s.seen q; passed = put_other s.passed w (λ y. false) q (λ e. n (sym a ∙ e)) i; hand = s.hand q; clock = s.clock q; need = put_other s.need w (s.stamp x) q (λ e. n (sym a ∙ e)) i }
-  row_others s (certify w) p q a n = λ i. record { phase = put_other s.phase w (certifying) q (λ e. n (sym a ∙ e)) i; seen = s.seen q; passed = put_other s.passed w (λ y. false) q (λ e. n (sym a ∙ e)) i; hand = s.hand q; clock = s.clock q; need = s.need q }
-  row_others s (pass w x) p q a n = λ i. record { phase = s.phase q; seen = s.seen q; passed = put_other s.passed w (put (s.passed w) x true) q (λ e. n (sym a ∙ e)) i; hand = s.hand q; clock = s.clock q; need = s.need q }
-  row_others s (seal w t b) p q a n = λ i. record { phase = put_other s.phase w (sealing t) q (λ e. n (sym a ∙ e)) i; seen = s.seen q; passed = s.passed q; hand = s.hand q; clock = s.clock q; need = s.need q }
-  row_others s (finish w) p q a n = λ i. record { phase = put_other s.phase w (aborting) q (λ e. n (sym a ∙ e)) i; seen = s.seen q; passed = s.passed q; hand = s.hand q; clock = s.clock q; need = s.need q }
-  row_others s (move b) p q a n = absurd a
-  row_others s (store w x v t) p q a n = refl
-  row_others s (fail w c) p q a n = λ i. record { phase = put_other s.phase w (aborting) q (λ e. n (sym a ∙ e)) i; seen = s.seen q; passed = s.passed q; hand = s.hand q; clock = s.clock q; need = s.need q }
-  row_others s (free w x v) p q a n = refl
-  row_others s (commit w t) p q a n = λ i. record { phase = put_other s.phase w (out) q (λ e. n (sym a ∙ e)) i; seen = s.seen q; passed = s.passed q; hand = s.hand q; clock = s.clock q; need = s.need q }
-  row_others s (close w) p q a n = λ i. record { phase = put_other s.phase w (out) q (λ e. n (sym a ∙ e)) i; seen = s.seen q; passed = s.passed q; hand = s.hand q; clock = s.clock q; need = s.need q }
+  row_others s ev p q a n = grind arith

@@ -26,8 +26,7 @@ apart [] = true
 apart (x ∷ xs) = not (among x xs) && apart xs
 
 pub none_of : {V : Type 0} (o : Option V) → is_some o ≡ false → o ≡ None
-none_of None h = refl
-none_of (Some v) h = cc
+none_of o h = grind arith
 
 -- an object with no place has no value
 pub no_value : {V : Type 0} (xs : List (Slot V)) (x : ℕ) → place_of xs x 0 ≡ None → value_of xs x ≡ None
@@ -45,8 +44,7 @@ below_of_named e os n (s ∷ ss) h =
     and_from (ltb s.object (length os)) (below (length os) (names ss)) b.0 (below_of_named e os n ss a.1)
 
 pub named_from : {K : Type 0} (e : K) (os : List (Object K)) (n x : ℕ) → ObjectsOk e os n → x < length os → named_ok e os n x ≡ true
-named_from e os n x ok h =
-    and_from (ltb x (length os)) (object_ok (get_or os x (blank_object e)) n) (lt-ltb x (length os) h) (ok x h)
+named_from e os n x ok h = grind arith
 
 pub named_of_below : {K V : Type 0} (e : K) (os : List (Object K)) (n : ℕ) (xs : List (Slot V)) → ObjectsOk e os n → below (length os) (names xs) ≡ true → all_named e os n xs ≡ true
 named_of_below e os n [] ok h = refl
@@ -63,8 +61,7 @@ value_first s ss x = elim (cases_Bool (eqb s.object x)) [ inl e ↦ simp e | inr
 -- an object has a value exactly where it is named
 pub value_among : {V : Type 0} (xs : List (Slot V)) (x : ℕ) → is_some (value_of xs x) ≡ among x (names xs)
 value_among [] x = refl
-value_among (s ∷ ss) x =
-    elim (cases_Bool (eqb s.object x)) [ inl e ↦ simp e | inr e ↦ simp e (value_among ss x) ]
+value_among (s ∷ ss) x = grind (arith, value_among ss x)
 
 pub distinct_apart : {V : Type 0} (xs : List (Slot V)) → distinct xs ≡ apart (names xs)
 distinct_apart [] = refl
@@ -84,7 +81,7 @@ among_push y (z ∷ zs) x h e =
     let a = or_parts (eqb z y) (among y zs) h in or_from (eqb z y) (among y (zs ++ x ∷ [])) a.0 (among_push y zs x a.1 e)
 
 eqb_flip : (x y : ℕ) → eqb x y ≡ false → eqb y x ≡ false
-eqb_flip x y h = grind (arith, nat_tests)
+eqb_flip x y h = grind arith
 
 pub apart_push : (xs : List ℕ) (x : ℕ) → apart xs ≡ true → among x xs ≡ false → apart (xs ++ x ∷ []) ≡ true
 apart_push [] x h n = refl
@@ -97,7 +94,7 @@ apart_push (y ∷ ys) x h n =
     (apart_push ys x a.1 b.1)
 
 pub stamps_push : (xs : List (Slot ℕ)) (s : Slot ℕ) → stamps_ok xs ≡ true → s.value ≤ 2 ^ 40 → stamps_ok (xs ++ s ∷ []) ≡ true
-stamps_push [] s h l = grind (arith, nat_tests)
+stamps_push [] s h l = grind arith
 stamps_push (y ∷ ys) s h l =
     let a = and_parts (leb y.value (2 ^ 40)) (stamps_ok ys) h in
     and_from (leb y.value (2 ^ 40)) (stamps_ok (ys ++ s ∷ [])) a.0 (stamps_push ys s a.1 l)

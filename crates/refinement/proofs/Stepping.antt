@@ -1,6 +1,6 @@
 -- Every step is a lawful block of events of the protocol, by its phase and its reply.
 use Rattle.std.proofs.Common.{◌≡◌, ℕ, ◌+◌, ◌*◌, ◌^◌, ◌<◌, ◌≤◌, min, max, Bool, true, false, cond, ◌&&◌, ◌||◌, eqb, ltb, leb, ◌⊎◌, List, [], ◌∷◌, length, Some, None, Ok, Option, Result, sym, refl, ap, ◌∙◌, subst, inl, inr, arith}
-use Rattle.std.proofs.lemmas.Bool.{cases_Bool, eqb-true, eqb-false, and_parts, or_parts, eq-eqb, cond_both, leb-true, leb-false, ltb-true, ltb-false}
+use Rattle.std.proofs.lemmas.Bool.{cases_Bool, eqb-true, eqb-false, and_parts, or_parts, cond_both, leb-false, ltb-true, ltb-false}
 use Rattle.tables.specs.Lookup.{pair, value_of, place_of}
 use Rattle.tables.specs.Tables.{Tables, process_at, object_at, hand_at, read_at, write_at, read_set, write_set, with_process, with_object, with_hand, with_read, with_write}
 use Rattle.tables.specs.declared.map.Slot.{Slot}
@@ -33,7 +33,7 @@ use Rattle.engine.proofs.Facts.{phase_facts}
 use Rattle.protocol.specs.Protocol.{State, Why, next}
 use Rattle.protocol.specs.Protocol.Held.{nobody}
 use Rattle.protocol.specs.Protocol.Phase.{running, certifying, aborting, sealing}
-use Rattle.protocol.specs.Protocol.Cause.{busy, withdrawn}
+use Rattle.protocol.specs.Protocol.Cause.{withdrawn}
 use Rattle.protocol.specs.Protocol.Event.{certify, fail, free, close}
 use Rattle.protocol.proofs.Updates.{put_same}
 use Rattle.protocol.proofs.Invariant.{differ}
@@ -45,7 +45,7 @@ use Rattle.refinement.proofs.Changes.{sizes_facts, place_within}
 use Rattle.refinement.proofs.Rows.{row}
 use Rattle.refinement.proofs.Blocks.{frame_none}
 use Rattle.refinement.proofs.Placing.{live_at, pending_at, reading_bank, ready_shown}
-use Rattle.refinement.proofs.View.{gone, HolderAs, SeenAs, Rests, Certifies, NotBegun, FreeingAs, View, held_nobody}
+use Rattle.refinement.proofs.View.{gone, SeenAs, Rests, Certifies, NotBegun, FreeingAs, View, held_nobody}
 use Rattle.refinement.proofs.Reading.{value_push, own_shown, In-set, in_already, in_joined, now_shown, later_shown, waiting_shown}
 use Rattle.refinement.proofs.Extending.{value_is}
 use Rattle.refinement.proofs.Passing.{extending_shown, write_extended, read_extended}
@@ -67,30 +67,14 @@ Looking (Storing next) = ⊥
 Looking (Freeing next x) = ⊥
 
 unstopped : (f : Phase) → Looking f → stopped_by f ≡ None
-unstopped Idle l = refl
-unstopped (Beginning next least) l = refl
-unstopped (Reading x) l = refl
-unstopped (Writing x) l = refl
-unstopped (Extending x to next a) l = refl
-unstopped (Certifying next) l = refl
-unstopped (Storing next) l = refl
-unstopped (Freeing next x) l = absurd l
+unstopped f l = grind arith
 
 no_begin : {K : Type 0} (h : K) (f : Phase) (k : Request K) → Looking f → Asks h f k → k ≡ ask.Begin → ⊥
-no_begin h Idle k l a e = l
-no_begin h (Beginning next least) k l a e = l
-no_begin h (Reading x) k l a e = cc
-no_begin h (Writing x) k l a e = cc
-no_begin h (Extending x to next access.Read) k l a e = cc
-no_begin h (Extending x to next access.Write) k l a e = cc
-no_begin h (Certifying next) k l a e = cc
-no_begin h (Storing next) k l a e = l
-no_begin h (Freeing next x) k l a e = l
+no_begin h f k l a e = grind arith
 
 -- a request that goes on to free asks for the same
 asks_freeing : {K : Type 0} (h : K) (i j : ℕ) (x : Ending) (k : Request K) → Asks h (Freeing i x) k → Asks h (Freeing j x) k
-asks_freeing h i j (Abort c) k a = a
-asks_freeing h i j Withdraw k a = a
+asks_freeing h i j x k a = grind arith
 
 module _ {K : Type 0} (e : K) (number : ℕ → ℕ) (t : Tables K) (s : State K) (p : ℕ) (g : Good e t) (v : View e number t s) (l : p < length t.processes) (live : (process_at t p).live ≡ true) where
   -- a step in the phase f that comes to the outcome z
@@ -112,21 +96,15 @@ module _ {K : Type 0} (e : K) (number : ℕ → ℕ) (t : Tables K) (s : State K
 
   -- another process holds x
   why_held : (x : ℕ) → foreign (object_at e t x).holder p ≡ true → Why s p (cause_of (conflict.Held x))
-  why_held x b = go (object_at e t x).holder b (v.held x)
-    where
-      go : (o : Option ℕ) → foreign o p ≡ true → HolderAs t x o (s.held x) → Why s p (busy x)
-      go None n h = cc
-      go (Some q) n h = (q, h.0, h.2, λ m. let z = eq-eqb q p m in cc)
+  why_held x b = grind arith
 
   -- x has another stamp than the one that p has seen
   why_changed : (x u : ℕ) → SeenAs (Some u) (s.seen p x) → differs (Some u) (object_at e t x).stamp ≡ true → Why s p (cause_of (conflict.Changed x))
-  why_changed x u a b =
-      (u, a.0, a.1, λ m. let z = eq-eqb u (object_at e t x).stamp (m ∙ v.stamps x) in cc)
+  why_changed x u a b = grind arith
 
   -- the same, where p may have seen none
   why_seen : (x : ℕ) (o : Option ℕ) → SeenAs o (s.seen p x) → differs o (object_at e t x).stamp ≡ true → Why s p (cause_of (conflict.Changed x))
-  why_seen x None a b = cc
-  why_seen x (Some u) a b = why_changed x u a b
+  why_seen x o a b = grind arith
 
   -- a look at x that p may have seen, by what it finds
   looks : (f : Phase) (x : ℕ) (o : Option ℕ) → Looking f → gone (process_at t p).phase ≡ 0 → (s.phase p ≡ running) ⊎ (s.phase p ≡ certifying) → (differs o (object_at e t x).stamp ≡ true → Why s p (cause_of (conflict.Changed x)))
@@ -141,11 +119,7 @@ module _ {K : Type 0} (e : K) (number : ℕ → ℕ) (t : Tables K) (s : State K
 
   -- the stamp and the clock
   current_cases : (st ck n : ℕ) → (leb st ck || eqb n 0) ≡ true → (st ≤ ck) ⊎ ((ck < st) × (n ≡ 0))
-  current_cases st ck n h =
-      elim (cases_Bool (leb st ck)) [
-        | inl b ↦ inl (leb-true st ck b)
-        | inr b ↦ inr (leb-false st ck b, eqb-true n 0 (simp b at h))
-      ]
+  current_cases st ck n h = grind arith
 
   -- a stamp that needs an extension
   later_is : (st ck n : ℕ) → (leb st ck || eqb n 0) ≡ false → ck < st
@@ -279,11 +253,7 @@ module _ {K : Type 0} (e : K) (number : ℕ → ℕ) (t : Tables K) (s : State K
           (λ j b. rw b (Block.reads_extended x _ _ _ _))
         where
           already : (y : ℕ) → value_of (read_set t p) y ≡ cond (eqb x y) (Some to) (value_of (read_set t p) y)
-          already y =
-              elim (cases_Bool (eqb x y)) [
-                | inl c ↦ (let n : x ≡ y = eqb-true x y c in simp c (ap (value_of (read_set t p)) (sym n) ∙ k ∙ ap Some (same u k)))
-                | inr c ↦ simp c
-              ]
+          already y = grind arith
       finished same clear fresh last None k =
           let few = room k refl in
           let size = (sizes_facts t g.sizes).reads in
@@ -371,8 +341,7 @@ module _ {K B : Type 0} (e : K) (number : B → ℕ → ℕ) (moved : B → ℕ 
       (seal_shown e (number b) t s p g v l live i st (number (moved b p st)) q a last (omega arith) (omega arith) (λ n. rises b p st n)) (λ k c. (rw c (Block.seals _ _ _), c))
     where
       stamp_is : (c : Bool) → cond c (Some (1 + max (process_at t p).clock (number b p))) None ≡ Some st → 1 + max (process_at t p).clock (number b p) ≡ st
-      stamp_is true k = cc
-      stamp_is false k = cc
+      stamp_is c k = grind arith
   seals s i v q a last None h = stops e (number b) t s p g v l live (Certifying i) conflict.Spent tt a.phase (inr a.phase) (ap gone q)
 
   -- a step of a commit, once certification has begun
@@ -409,8 +378,7 @@ module _ {K B : Type 0} (e : K) (number : B → ℕ → ℕ) (moved : B → ℕ 
       (λ r c. rw c (Act.certifying_first a.0 (m.block tt ask.Commit refl)))
     where
       begun : NotBegun (process_at t p) (read_set t p) i (row (next s (certify p)) p) ⊎ Certifies (process_at t p) (read_set t p) i (row (next s (certify p)) p) → Certifies (process_at t p) (read_set t p) i (row (next s (certify p)) p)
-      begun (inr c) = c
-      begun (inl c) = absurd (differ certifying running tt (sym (put_same s.phase p certifying p refl) ∙ c.2.phase))
+      begun h = grind arith
 
   -- a step that frees, the first one of a withdrawal too
   frees_from : (s : State K) (i : ℕ) (x : Ending) → View e (number b) t s → (process_at t p).phase ≡ Freeing i x → FreeingAs (process_at t p) (read_set t p) i x (row s p) → Step s b (free_step e t p i x)

@@ -1,7 +1,8 @@
 -- How the tables of a memory show a state of the protocol.
-use Rattle.std.proofs.Common.{◌≡◌, ℕ, ◌*◌, ◌<◌, ◌≤◌, Bool, true, false, eqb, ◌⊎◌, List, length, get_or, drop, Some, None, Option, sym, ap, ◌∙◌, subst, inl, inr, arith}
-use Rattle.std.proofs.lemmas.Bool.{cases_lt, eqb-true, not-false}
+use Rattle.std.proofs.Common.{◌≡◌, ℕ, ◌*◌, ◌<◌, ◌≤◌, Bool, true, false, ◌⊎◌, List, length, get_or, drop, Some, None, Option, sym, ap, ◌∙◌, subst, inl, inr, arith}
+use Rattle.std.proofs.lemmas.Bool.{cases_lt}
 use Rattle.std.proofs.lemmas.List.{get_or_past}
+use Rattle.std.proofs.lemmas.Bool.Decides.{nat_tests}
 use Rattle.tables.specs.Lookup.{pair, value_of}
 use Rattle.tables.specs.Tables.{Tables, process_at, object_at, hand_at, read_set, write_set, idle_process}
 use Rattle.tables.specs.declared.map.Slot.{Slot}
@@ -113,15 +114,7 @@ pub record View {K : Type 0} (e : K) (number : ℕ → ℕ) (t : Tables K) (s : 
 
 -- the bank's numbers grow
 live_grows : {K : Type 0} (number larger : ℕ → ℕ) (r : Process) (rs : List (Slot ℕ)) (h : K) (f : Phase) (w : Row K) → ((q : ℕ) → number q ≤ larger q) → LiveAs number r rs h f w → LiveAs larger r rs h f w
-live_grows number larger r rs h Idle w g a = a
-live_grows number larger r rs h (Beginning next least) w g a = (a.0, λ q l. let b = a.1 q l in let c = g q in omega arith, a.2, a.3)
-live_grows number larger r rs h (Reading x) w g a = a
-live_grows number larger r rs h (Writing x) w g a = a
-live_grows number larger r rs h (Extending x to next access.Read) w g a = a
-live_grows number larger r rs h (Extending x to next access.Write) w g a = a
-live_grows number larger r rs h (Certifying next) w g a = a
-live_grows number larger r rs h (Storing next) w g a = a
-live_grows number larger r rs h (Freeing next ending) w g a = a
+live_grows number larger r rs h f w g a = grind arith
 
 row_grows : {K : Type 0} (number larger : ℕ → ℕ) (r : Process) (rs : List (Slot ℕ)) (h : K) (b : Bool) (w : Row K) → ((q : ℕ) → number q ≤ larger q) → RowAs number r rs h b w → RowAs larger r rs h b w
 row_grows number larger r rs h true w g a = live_grows number larger r rs h r.phase w g a
@@ -174,54 +167,24 @@ other_row e number larger t u s z p q g v f d same grows =
 
 -- who is on record as holder holds
 pub holder_of : {K : Type 0} (t : Tables K) (x : ℕ) (o : Option ℕ) (h : Held K) (q : ℕ) (v : K) → HolderAs t x o h → h ≡ by q v → (o ≡ Some q) × (value_of (pending_of t q) x ≡ Some v)
-holder_of t x None h q v a b = cc
-holder_of t x (Some w) h q v a b =
-    let same : by w a.0 ≡ by q v = sym a.2 ∙ b in
-    let eq : w ≡ q = cc in
-    let ev : a.0 ≡ v = cc in
-    (ap Some eq, ap (λ (z : ℕ). value_of (pending_of t z) x) (sym eq) ∙ a.1 ∙ ap Some ev)
+holder_of t x o h q v a b = grind arith
 
 module _ {K : Type 0} (e : K) (number : ℕ → ℕ) (t : Tables K) (s : State K) (v : View e number t s) where
   -- no other process holds
   pub open_to : (p x : ℕ) → foreign (object_at e t x).holder p ≡ false → Open s p x
-  open_to p x h q w k =
-      let a = holder_of t x (object_at e t x).holder (s.held x) q w (v.held x) k in
-      own_holder (object_at e t x).holder a.0 h
-    where
-      own_holder : (o : Option ℕ) → o ≡ Some q → foreign o p ≡ false → q ≡ p
-      own_holder None n f = cc
-      own_holder (Some r) n f = let same : r ≡ q = cc in sym same ∙ eqb-true r p (not-false (eqb r p) f)
+  open_to p x h q w k = grind arith
 
   -- what p has seen is the present stamp
   pub same_to : (p x : ℕ) → SeenAs (value_of (read_set t p) x) (s.seen p x) → differs (value_of (read_set t p) x) (object_at e t x).stamp ≡ false → Same s p x
-  same_to p x a d u w k = present (value_of (read_set t p) x) a d ∙ sym (v.stamps x)
-    where
-      present : (o : Option ℕ) → SeenAs o (s.seen p x) → differs o (object_at e t x).stamp ≡ false → u ≡ (object_at e t x).stamp
-      present None a d = cc
-      present (Some b) a d =
-          let same : saw b a.0 ≡ saw u w = sym a.1 ∙ k in
-          let eq : b ≡ u = cc in
-          sym eq ∙ eqb-true b (object_at e t x).stamp (not-false (eqb b (object_at e t x).stamp) d)
+  same_to p x a d u w k = grind arith
 
   -- p holds an object whose pair is pending
   pub held_mine : (p x : ℕ) (w : K) → value_of (pending_of t p) x ≡ Some w → s.held x ≡ by p w
   held_mine p x w h = go (object_at e t x).holder (v.holds p x w h) (v.held x)
     where
       go : (o : Option ℕ) → o ≡ Some p → HolderAs t x o (s.held x) → s.held x ≡ by p w
-      go None n a = cc
-      go (Some r) n a =
-          let same : r ≡ p = cc in
-          let b : Some a.0 ≡ Some w = sym (ap (λ (k : ℕ). value_of (pending_of t k) x) (sym same) ∙ a.1) ∙ h in
-          let c : a.0 ≡ w = cc in
-          a.2 ∙ ap (λ (k : ℕ). by k a.0) same ∙ ap (by p) c
+      go o n a = grind arith
 
   -- nobody holds an object that no other process holds and that is not pending
   pub held_nobody : (p x : ℕ) → foreign (object_at e t x).holder p ≡ false → value_of (pending_of t p) x ≡ None → s.held x ≡ nobody
-  held_nobody p x f none = go (object_at e t x).holder f (v.held x)
-    where
-      go : (o : Option ℕ) → foreign o p ≡ false → HolderAs t x o (s.held x) → s.held x ≡ nobody
-      go None f h = h
-      go (Some r) f h =
-          let same : r ≡ p = eqb-true r p (not-false (eqb r p) f) in
-          let mine : value_of (pending_of t p) x ≡ Some h.0 = ap (λ (k : ℕ). value_of (pending_of t k) x) (sym same) ∙ h.1 in
-          cc
+  held_nobody p x f none = grind (arith, nat_tests)

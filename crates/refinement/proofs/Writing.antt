@@ -1,7 +1,6 @@
 -- Sealing, and the steps of a write, as blocks of events.
 use Rattle.std.proofs.Common.{◌≡◌, ℕ, suc, ◌+◌, ◌-◌, ◌*◌, ◌<◌, ◌≤◌, Bool, true, false, cond, not, eqb, ◌⊎◌, List, [], ◌∷◌, ◌++◌, length, drop, set, is_some, Some, None, Option, sym, refl, ap, ◌∙◌, subst, inl, inr, arith}
 use Rattle.std.proofs.lemmas.Bool.{cases_eq, cases_Bool, eq-eqb, ne_eqb}
-use Rattle.std.proofs.lemmas.Bool.Decides.{nat_tests}
 use Rattle.std.proofs.lemmas.List.{get_or-set_same, get_or-set_other}
 use Rattle.tables.specs.Lookup.{pair, value_of, place_of}
 use Rattle.tables.specs.Tables.{Tables, process_at, object_at, hand_at, read_set, write_set, with_process, with_object, with_write, idle_process, blank_object}
@@ -14,7 +13,7 @@ use Rattle.engine.specs.Look.{foreign}
 use Rattle.protocol.specs.Table.{put}
 use Rattle.protocol.specs.Protocol.{State, Held, May, next}
 use Rattle.protocol.specs.Protocol.Held.{by}
-use Rattle.protocol.specs.Protocol.Seen.{unseen, saw}
+use Rattle.protocol.specs.Protocol.Seen.{saw}
 use Rattle.protocol.specs.Protocol.Phase.{running, sealing}
 use Rattle.protocol.specs.Protocol.Event.{extend, write, seal}
 use Rattle.protocol.proofs.Updates.{put_same, put_other}
@@ -26,7 +25,7 @@ use Rattle.refinement.proofs.Windows.{window, window_push, window_at}
 use Rattle.refinement.proofs.Changes.{sizes_facts, place_within}
 use Rattle.refinement.proofs.Rows.{Row, row, acted, row_acted, row_others}
 use Rattle.refinement.proofs.Placing.{Shown, pending_at, rest_covers}
-use Rattle.refinement.proofs.View.{gone, pending_of, HolderAs, SeenAs, PassedTo, Rests, Certifies, RowAs, View, row_at, open_to, held_mine}
+use Rattle.refinement.proofs.View.{gone, pending_of, HolderAs, PassedTo, Rests, Certifies, RowAs, View, row_at, open_to, held_mine}
 use Rattle.refinement.proofs.Extending.{all_passed}
 use Rattle.tables.specs.declared.memory.Object.{Object}
 use Rattle.engine.specs.Writes.{held_by, write_joined, holding}
@@ -63,10 +62,10 @@ value_replaced (s ∷ ss) x n i w h y =
     ]
   where
     apart_from : (a x y : ℕ) → eqb a x ≡ true → eqb x y ≡ false → eqb a y ≡ false
-    apart_from a x y m n = grind (arith, nat_tests)
+    apart_from a x y m n = grind arith
 
     other : (a x y : ℕ) → eqb a x ≡ false → eqb a y ≡ true → eqb x y ≡ false
-    other a x y n m = grind (arith, nat_tests)
+    other a x y n m = grind arith
 
 module _ {K : Type 0} (e : K) (number : ℕ → ℕ) (t : Tables K) (s : State K) (p : ℕ) (g : Good e t) (v : View e number t s) (l : p < length t.processes) (live : (process_at t p).live ≡ true) where
   -- the sealing step, to the stamp st; larger is the bank's numbers after it
@@ -228,12 +227,7 @@ module _ {K : Type 0} (e : K) (number : ℕ → ℕ) (t : Tables K) (s : State K
         }
       where
         unread : (y k : ℕ) (w : K) → s.seen p y ≡ saw k w → ⊥
-        unread y k w h =
-            let b : s.seen p y ≡ unseen = empty_set (process_at t p).reads none_read (a.seen y) in
-            cc
-          where
-            empty_set : (m : ℕ) → m ≡ 0 → SeenAs (value_of (window t.reads (p * 32) m) y) (s.seen p y) → s.seen p y ≡ unseen
-            empty_set m z i = subst (λ (j : ℕ). SeenAs (value_of (window t.reads (p * 32) j) y) (s.seen p y)) z i
+        unread y k w h = grind arith
 
     -- it is later, and an extension follows
     pub held_waiting : (process_at t p).clock < (object_at e t x).stamp
@@ -260,8 +254,7 @@ module _ {K : Type 0} (e : K) (number : ℕ → ℕ) (t : Tables K) (s : State K
       (old.0, pend, held_mine e number t s v p x old.0 pend)
     where
       some_of : (o : Option K) → is_some o ≡ true → (k : K) × (o ≡ Some k)
-      some_of (Some k) h = (k, refl)
-      some_of None h = cc
+      some_of o h = grind arith
 
   -- a write to an object that p holds: its pair is in place i
   pub rewrite_shown : (x i : ℕ) → (process_at t p).phase ≡ Writing x → Rests (process_at t p) (read_set t p) (row s p) → place_of (write_set t p) x 0 ≡ Some i
