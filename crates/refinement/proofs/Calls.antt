@@ -1,6 +1,7 @@
 -- Every placing and every step on a good memory is a lawful block of events of the protocol, by what it replies.
-use Rattle.std.proofs.Common.{◌≡◌, ℕ, ◌<◌, ◌≤◌, Bool, true, false, cond, not, List, [], ◌∷◌, length, Some, None, Ok, Err, Option, sym, refl, subst, arith}
+use Rattle.std.proofs.Common.{◌≡◌, ℕ, ◌<◌, ◌≤◌, Bool, true, false, cond, List, [], ◌∷◌, length, Some, None, Ok, Err, Option, sym, refl, subst, arith}
 use Rattle.std.proofs.lemmas.List.{get_or-set_same}
+use Rattle.std.proofs.lemmas.Bool.{not-true}
 use Rattle.tables.specs.Tables.{Tables, process_at, hand_at, with_process, with_hand, idle_process}
 use Rattle.tables.specs.declared.process.Phase.{Phase}
 use Rattle.tables.specs.declared.process.Phase.TheVariants.{Idle}
@@ -98,10 +99,7 @@ module _ {K : Type 0} (e : K) (number : ℕ → ℕ) (t : Tables K) (p : ℕ) wh
   placed_as : (s : State K) (q : Request K) → Good e t → View e number t s → p < length t.processes → (process_at t p).phase ≡ Idle → due q (process_at t p).live ≡ true
       → Placement e (length t.processes) number t (with_process (handed t p q) p (placed (process_at t p) q)) s p q
   placed_as s ask.Begin g v l idle d =
-      placement e number t s p ask.Begin l idle d (frame_none t p) refl (begin_shown e number t s p g v l (not_live (process_at t p).live d))
-    where
-      not_live : (k : Bool) → not k ≡ true → k ≡ false
-      not_live k n = grind arith
+      placement e number t s p ask.Begin l idle d (frame_none t p) refl (begin_shown e number t s p g v l (not-true (process_at t p).live d))
   placed_as s (ask.Read x) g v l idle d =
       placement e number t s p (ask.Read x) l idle d (frame_none t p) refl
       (placed_shown e number t s p g v l t (ask.Read x) (frame_none t p) refl refl refl d idle (λ n. cc))

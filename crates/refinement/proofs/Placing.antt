@@ -44,10 +44,9 @@ module _ {K : Type 0} (e : K) (number : ℕ → ℕ) (t : Tables K) (s : State K
   pub holds_none : (process_at t p).writes ≡ 0 → (x : ℕ) (w : K) → s.held x ≡ by p w → ⊥
   holds_none h x w k =
       let a = holder_of t x (object_at e t x).holder (s.held x) p w (v.held x) k in
-      let z : ◌≡◌ {A = ℕ} 0 1 = empty_pending (process_at t p).writes (gone (process_at t p).phase) h a.1 in
-      omega arith
+      empty_pending (process_at t p).writes (gone (process_at t p).phase) h a.1
     where
-      empty_pending : (n k : ℕ) → n ≡ 0 → value_of (drop k (window t.writes (p * 16) n)) x ≡ Some w → ◌≡◌ {A = ℕ} 0 1
+      empty_pending : (n k : ℕ) → n ≡ 0 → value_of (drop k (window t.writes (p * 16) n)) x ≡ Some w → ⊥
       empty_pending n k h a = grind arith
 
   -- a resting transaction's clock covers what it holds

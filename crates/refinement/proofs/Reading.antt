@@ -32,7 +32,7 @@ pub value_push : {V : Type 0} (xs : List (Slot V)) (x y : ℕ) (u : V) → value
 value_push [] x y u h = value_first (pair x u) [] y
 value_push (s ∷ ss) x y u h =
     elim (cases_Bool (eqb s.object x)) [
-      | inl a ↦ absurd (let z : ◌≡◌ {A = ℕ} 0 1 = some_none s.value (value_of ss x) (eqb s.object x) a (sym (value_first s ss x) ∙ h) in omega arith)
+      | inl a ↦ (let z : Some s.value ≡ None = simp a at h in cc)
       | inr a ↦
           (let h' : value_of ss x ≡ None = simp a at h in
           elim (cases_Bool (eqb s.object y)) [
@@ -41,9 +41,6 @@ value_push (s ∷ ss) x y u h =
           ])
     ]
   where
-    some_none : {V : Type 0} (v : V) (o : Option V) (b : Bool) → b ≡ true → cond b (Some v) o ≡ None → ◌≡◌ {A = ℕ} 0 1
-    some_none v o b q h = cc
-
     other : (a x y : ℕ) → eqb a x ≡ false → eqb a y ≡ true → eqb x y ≡ false
     other a x y n m = grind arith
 

@@ -80,9 +80,6 @@ among_push y [] x h e = or_from (eqb x y) false e refl
 among_push y (z ∷ zs) x h e =
     let a = or_parts (eqb z y) (among y zs) h in or_from (eqb z y) (among y (zs ++ x ∷ [])) a.0 (among_push y zs x a.1 e)
 
-eqb_flip : (x y : ℕ) → eqb x y ≡ false → eqb y x ≡ false
-eqb_flip x y h = grind arith
-
 pub apart_push : (xs : List ℕ) (x : ℕ) → apart xs ≡ true → among x xs ≡ false → apart (xs ++ x ∷ []) ≡ true
 apart_push [] x h n = refl
 apart_push (y ∷ ys) x h n =
@@ -90,7 +87,7 @@ apart_push (y ∷ ys) x h n =
     let b = or_parts (eqb y x) (among x ys) n in
     let f : among y ys ≡ false = grind (arith, nat_tests) in
     and_from (not (among y (ys ++ x ∷ []))) (apart (ys ++ x ∷ []))
-    (ap not (among_push y ys x f (eqb_flip y x b.0)))
+    (ap not (among_push y ys x f (let flip : eqb x y ≡ false = grind arith in flip)))
     (apart_push ys x a.1 b.1)
 
 pub stamps_push : (xs : List (Slot ℕ)) (s : Slot ℕ) → stamps_ok xs ≡ true → s.value ≤ 2 ^ 40 → stamps_ok (xs ++ s ∷ []) ≡ true

@@ -24,7 +24,7 @@ unfolding refused
 no_holds = refl
 
 opening_by : {t : ℕ} → version opening ≡ version (by t) → ⊥
-opening_by e = let z : ◌≡◌ {A = ℕ} 0 1 = cc in omega arith
+opening_by e = cc
 
 by_0 : {t : ℕ} → version (by 0) ≡ version (by t) → 0 ≡ t
 by_0 e = cc
