@@ -12,7 +12,7 @@ use tables::Memory;
 
 // Carries out the block in the bytes, where it is number `next`, and gives the journal of its calls. All questions on
 // the block are asked before any call is made; a block that is refused alters nothing. (Memory and bank, and bytes and number,
-// are apart, as in the functions below.)
+// are apart, as in `execute` and `calls_in`.)
 pub fn carry_out<B: Bank>(
     heap: Global,
     memory: &mut Memory<u32>,
