@@ -1,5 +1,6 @@
 // The three banks are lawful, and each is exact about its own numbers.
-ghost use Rattle.std.specs.Prelude.{◌≡◌, ℕ, ◌^◌, ◌<◌, MatchOption};
+ghost use Rattle.std.specs.Prelude.{◌≡◌, ℕ, ◌^◌, ◌<◌, true, MatchOption, slice_index};
+ghost use Rattle.banks.specs.Numbers.{ranged};
 ghost use Rattle.banks.specs.Banks.{common_number, common_moved, own_number, own_moved, same_common, same_own};
 ghost use Rattle.std.proofs.Common.{rules, arith};
 ghost use Rattle.std.proofs.lemmas.Bool.Decides.{nat_tests};
@@ -20,12 +21,20 @@ impl CommonBank {
     }
 }
 
+// The number 0 for each of the 64 processes.
+fn zeros() -> [u64; 64]
+    ensures numbers { (p : ℕ) → slice_index result p ≡ 0 }
+    ensures lawful { ranged result ≡ true }
+{
+    [0; 64]
+}
+
 impl OwnBank {
     // The own bank with every number 0.
     pub fn new() -> OwnBank
         ensures { (p : ℕ) → own_number result p ≡ 0 }
     {
-        OwnBank { numbers: [0; 64] }
+        OwnBank { numbers: zeros() }
     }
 }
 
