@@ -1,3 +1,4 @@
+-- The numbers of the common and of the own bank, and what a move makes of each.
 use Rattle.std.specs.Prelude.{◌≡◌, ℕ, ◌^◌, ◌≤◌, max, true, cond, ◌&&◌, nat_le, slice_index}
 use Rattle.std.proofs.Math.Bool.{Bool-set}
 use mathlib.Core.HLevel.{is_prop→PathP}

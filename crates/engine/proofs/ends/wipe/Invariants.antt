@@ -1,3 +1,4 @@
+-- The places so far are blank.
 use Rattle.std.proofs.Common.{◌≡◌, length, replicate, take}
 use Rattle.tables.specs.Lookup.{pair}
 use Rattle.engine.proofs.ends.wipe.Given as goal

@@ -1,3 +1,4 @@
+-- The facts of a record whose tests have passed.
 use Rattle.std.proofs.Common.{sym, rules}
 use Rattle.tables.specs.Tables.{tables_of}
 use Rattle.engine.proofs.Facts.{sound_record}

@@ -1,3 +1,4 @@
+-- What is left to test decides for all; it gets shorter.
 use Rattle.std.proofs.Common.{◌≡◌, length}
 use Rattle.engine.specs.Sound.{distinct}
 use Rattle.engine.proofs.sound.all_apart.Given as goal
