@@ -2,26 +2,40 @@
 // bank and contents 0, and prints a line for each answer and each refusal. A refused block ends the run.
 #![tactic(auto)]
 
+ghost use Rattle.std.specs.Prelude.{◌≤◌, length, IfOk};
+
 use anyhow::anyhow;
 use blocks::BLOCK_LEN;
 use session::Session;
+use std::io;
 use std::io::Read;
+
+// Reads until the buffer is full or the input ends, and tells how many bytes came. (Tried: `read_to_end` reads on where a read
+// was interrupted, which ends the program, and asks for more memory after the first block was read.)
+fn fill(input: &mut impl Read, buffer: &mut [u8]) -> io::Result<usize>
+    ensures { IfOk result (λ n. n ≤ length buffer.old) }
+{
+    let mut filled = 0;
+    for _ in 0..buffer.len() {
+        let count = input.read(&mut buffer[filled..])?;
+        filled += count;
+        if count == 0 || filled == buffer.len() {
+            break;
+        }
+    }
+    Ok(filled)
+}
 
 fn run(rt: &HostRuntime) -> anyhow::Result<()> {
     let mut session = Session::new(rt.alloc())?;
     let mut input = rt.stdin();
-    let mut piece = Vec::with_capacity(rt.alloc(), BLOCK_LEN)?;
     for place in 0..u32::MAX {
-        piece.clear();
-        // `as`, which loses nothing: there is no `From` of a `usize`.
-        input
-            .by_ref()
-            .take(BLOCK_LEN as u64)
-            .read_to_end(&mut piece)?;
-        if piece.is_empty() {
+        let mut buffer = [0u8; BLOCK_LEN];
+        let count = fill(&mut input, &mut buffer)?;
+        if count == 0 {
             return Ok(());
         }
-        let goes_on = session.carry_out(rt.alloc(), place, piece.as_slice())?;
+        let goes_on = session.carry_out(rt.alloc(), place, &buffer[..count])?;
         print!(rt; "{}", session.text.as_str())?;
         session.text.clear();
         if !goes_on {
