@@ -1,5 +1,5 @@
 // The three banks are lawful, and each is exact about its own numbers.
-ghost use Rattle.std.specs.Prelude.{◌≡◌, ℕ, ◌^◌, ◌<◌, true, MatchOption, slice_index};
+ghost use Rattle.std.specs.Prelude.{◌≡◌, ℕ, ◌^◌, ◌<◌, ◌≤◌, true, cond, nat_lt, MatchOption, slice_index};
 ghost use Rattle.banks.specs.Numbers.{ranged};
 ghost use Rattle.banks.specs.Banks.{common_number, common_moved, own_number, own_moved, same_common, same_own};
 ghost use Rattle.std.proofs.Common.{rules, arith};
@@ -21,12 +21,13 @@ impl CommonBank {
     }
 }
 
-// The number 0 for each of the 64 processes.
-fn zeros() -> [u64; 64]
-    ensures numbers { (p : ℕ) → slice_index result p ≡ 0 }
+// The number u for each of the 64 processes.
+fn all_at(u: u64) -> [u64; 64]
+    requires { u ≤ 2 ^ 40 }
+    ensures numbers { (p : ℕ) → slice_index result p ≡ cond (nat_lt p 64) u 0 }
     ensures lawful { ranged result ≡ true }
 {
-    [0; 64]
+    [u; 64]
 }
 
 impl OwnBank {
@@ -34,7 +35,7 @@ impl OwnBank {
     pub fn new() -> OwnBank
         ensures { (p : ℕ) → own_number result p ≡ 0 }
     {
-        OwnBank { numbers: zeros() }
+        OwnBank { numbers: all_at(0) }
     }
 }
 
