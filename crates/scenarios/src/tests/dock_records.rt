@@ -86,7 +86,9 @@ fn purse_and_bay(rt: HostRuntime) -> Result<(), Fail> {
 
     // The bay is free and as it was.
     assert_eq!(rt; finish(&mut memory, &mut bank, 0, Request::Begin)?, begun);
-    for (object, content) in [(1, contents[1]), (0, contents[0])] {
+    let bay = Dock::Bay { bicycle: 17 };
+    let tariff = Dock::Tariff { tenths: 125 };
+    for (object, content) in [(1, bay), (0, tariff)] {
         let read = finish(&mut memory, &mut bank, 0, Request::Read { object })?;
         assert_eq!(rt; read, Answer::Read { content, steps: 1 });
     }

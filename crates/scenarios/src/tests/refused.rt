@@ -1,7 +1,9 @@
-// Refused calls.
+// Refused calls, and the texts of errors.
 use super::{check_text, printed};
 use blocks::Entry;
 use std::test::Fail;
+use tables::{FreshError, Memory};
+use turns::{BlockError, calls_in};
 
 // Refused calls are numbered and alter nothing: the other lines are those of the run without them.
 #[test]
@@ -46,5 +48,28 @@ fn refusals(rt: HostRuntime) -> Result<(), Fail> {
         39 1 begun 2\n\
         41 1 read 7 1\n";
     check_text(printed(rt.alloc(), &entries)?.as_str(), expected)?;
+    Ok(())
+}
+
+// A memory of no objects and a block of no bytes are refused; these errors and want of memory have each its text.
+#[test]
+fn texts_of_errors(rt: HostRuntime) -> Result<(), Fail> {
+    let heap = rt.alloc();
+    let Err(no_objects) = Memory::<u32>::fresh(heap, &[], 2) else {
+        return Err(Fail::new("a memory of no objects"));
+    };
+    let text = format!(in heap; "{no_objects}; {}", FreshError::NoMemory)?;
+    check_text(
+        text.as_str(),
+        "no such memory: refused 1; no memory for the tables",
+    )?;
+    let Err(no_bytes) = calls_in(heap, &[], 0) else {
+        return Err(Fail::new("a block of no bytes"));
+    };
+    let text = format!(in heap; "{no_bytes}; {}", BlockError::NoMemory)?;
+    check_text(
+        text.as_str(),
+        "no such block: refused 11; no memory for a block",
+    )?;
     Ok(())
 }
