@@ -18,10 +18,10 @@ fn fill(input: &mut impl Read, buffer: &mut [u8]) -> io::Result<usize>
     let mut filled = 0;
     for _ in 0..buffer.len() {
         let count = input.read(&mut buffer[filled..])?;
-        filled += count;
-        if count == 0 || filled == buffer.len() {
+        if count == 0 {
             break;
         }
+        filled += count;
     }
     Ok(filled)
 }
