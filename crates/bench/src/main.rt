@@ -10,8 +10,9 @@ use session::Session;
 use std::io;
 use std::io::Read;
 
-// Reads until the buffer is full or the input ends, and tells how many bytes came. (Tried: `read_to_end` reads on where a read
-// was interrupted, which ends the program, and asks for more memory after the first block was read.)
+// Reads until the buffer is full or the input ends, and tells how many bytes came. An interrupted read is an error like any other,
+// and so is a read of no bytes, made once after a full buffer, that the input refuses. (Tried: `read_to_end` reads again where
+// a read was interrupted, and asks for memory after the first block was read.)
 fn fill(input: &mut impl Read, buffer: &mut [u8]) -> io::Result<usize>
     ensures { IfOk result (λ n. n ≤ length buffer.old) }
 {
